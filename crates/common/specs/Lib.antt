@@ -1,0 +1,4 @@
+pub mod Bits
+pub mod Halves
+pub mod Lists
+pub mod Order

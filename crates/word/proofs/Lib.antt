@@ -1,0 +1,4 @@
+pub mod Adder
+pub mod Subtract
+pub mod Columns
+pub mod Rules

@@ -1,0 +1,4 @@
+pub mod Arithmetic
+pub mod Bitwise
+pub mod Hints
+pub mod Assertions
