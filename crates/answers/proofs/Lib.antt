@@ -1,0 +1,4 @@
+pub mod Back
+pub mod Right
+pub mod Same
+pub mod Spelling
