@@ -1,0 +1,4 @@
+pub mod Check
+pub mod Sound
+pub mod Faults
+pub mod Working

@@ -1,0 +1,4 @@
+pub mod Call
+pub mod Emit
+pub mod Faults
+pub mod Working

@@ -1,0 +1,11 @@
+pub mod Tables
+pub mod Words
+pub mod Parses
+pub mod Programs
+pub mod RoundTrip
+pub mod BytesBack
+pub mod EncodedBytes
+pub mod DecoderFaults
+pub mod Cases
+pub mod Encodings
+pub mod Lengths
