@@ -1,0 +1,3 @@
+-- Laws of the functions of `deaths`.
+pub mod Stamps
+pub mod Chains

@@ -1,0 +1,2 @@
+-- Laws of the function of `per_wire`.
+pub mod Numbers

@@ -1,0 +1,32 @@
+use Prim.Native.Nat.{_≤_, _-_}
+use mathlib.Core.Path.{_≡_}
+use borrow.Author.Needs.{needs}
+use native.Mathlib.Omega.{arith}
+use lib.ListN.{length}
+use Rattle.scratch_answers.proofs.fill.Statement.{statement}
+use Rattle.scratch_answers.proofs.fill.Tie as tie
+
+abbrev Inv-loop : tie.InvT-loop
+Inv-loop line entries₀ doubled₀ i₀ i-end entries doubled i = (i ≤ i-end) × (length entries ≡ length entries₀)
+
+abbrev μ-loop : tie.MeasureT-loop
+μ-loop line entries₀ doubled₀ i₀ i-end entries doubled i = i-end - i
+
+pub fill-spec : {M : Type 1} → statement M
+fill-spec =
+    tie.close
+    (tie.spec
+    Inv-loop
+    μ-loop
+    (λ c. search needs)
+    (λ c. search needs)
+    (λ c κs. search needs)
+    (λ c κs. search needs)
+    (λ c κs. search needs)
+    (λ c. search needs)
+    (λ c κs. search needs)
+    (λ c. search needs)
+    (λ c. search needs)
+    (λ c. search needs)
+    (λ c. search needs)
+    (λ c. search needs))
