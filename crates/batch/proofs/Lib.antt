@@ -1,0 +1,7 @@
+pub mod Accepted
+pub mod Cuts
+pub mod Arrays
+pub mod Leaves
+pub mod Joins
+pub mod Demands
+pub mod Instances

@@ -1,0 +1,3 @@
+pub mod Cut
+pub mod Batch
+pub mod Demands

@@ -1,0 +1,4 @@
+pub mod Meaning
+pub mod Run
+pub mod Faults
+pub mod Working

@@ -1,0 +1,3 @@
+pub mod Stripes
+pub mod Columns
+pub mod Variants
