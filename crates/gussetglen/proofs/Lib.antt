@@ -1,0 +1,3 @@
+pub mod Unpacked
+pub mod Ranges
+pub mod Totals
