@@ -4,3 +4,4 @@ pub mod Lists
 pub mod Runs
 pub mod Calls
 pub mod Refusals
+pub mod Meanings
