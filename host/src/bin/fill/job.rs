@@ -4,21 +4,31 @@ use crate::arguments::Files;
 use crate::trouble::Trouble;
 use gussetglen::{Batch, BatchReport, Cap, Program, Refusal, Rows, Stripe, StripeReport, Width};
 use std::fmt::Write as _;
-use std::fs::{self, File};
+use std::fs::File;
 use std::io::{self, BufReader, BufWriter, Read, Write};
 use std::path::Path;
 
 /// Stripes beyond this many are counted and no longer told one by one.
 const STRIPES_TOLD: usize = 16;
 
+/// No more of PROGRAM is read than this, which is far past what the library takes for a program: of a file without an end it
+/// answers TooLong, too.
+const PROGRAM_READ: u64 = 1 << 20;
+
 /// The job on files. The library judges in the order of a run: shape, cap, program.
 pub fn fill_files(files: &Files, told: &mut String) -> Result<(), Trouble> {
-    let code = fs::read(&files.program).map_err(|error| Trouble::file(&files.program, error))?;
+    let code = read_program(&files.program)?;
     let mut batch = read_batch(files)?;
     let stripes =
         batch.cut(&files.cuts.starts(files.width)).map_err(|bad_cut| Trouble::Argument(format!("CUTS: {bad_cut}")))?;
     let cap = Cap::new(files.cap).map_err(|refusal| given(refusal, format!("the cap is {}", files.cap)))?;
-    let program = Program::check(code, files.rows)?;
+    let program = Program::check(code, files.rows).map_err(|refusal| {
+        let told = match refusal {
+            Refusal::BadRegister(_) => format!("ROWS is {}", files.rows.get()),
+            _ => String::new(),
+        };
+        given(refusal, told)
+    })?;
     let (report, reports) = fill(&program, &mut batch, &stripes, cap)?;
     tell(&batch, &reports, &report, told);
     write_words(&files.output, batch.words()).map_err(|error| Trouble::file(&files.output, error))?;
@@ -81,6 +91,12 @@ pub fn tell(batch: &Batch, reports: &[StripeReport], report: &BatchReport, told:
     for failure in parcel.failures() {
         line(format!("  {failure}"));
     }
+}
+
+fn read_program(path: &Path) -> Result<Vec<u8>, Trouble> {
+    let mut code = Vec::new();
+    let read = File::open(path).and_then(|file| file.take(PROGRAM_READ).read_to_end(&mut code));
+    read.map(|_| code).map_err(|error| Trouble::file(path, error))
 }
 
 fn read_batch(files: &Files) -> Result<Batch, Trouble> {

@@ -234,15 +234,35 @@ fn refusals_of_the_program() {
         (vec![0x01, 0, 0], "6, Truncated"),
         (Instruction::shift(0, 1, 4, 32).encode(), "7, BadShift"),
         (Instruction::hint(9, &[], &[0], &[1]).encode(), "8, BadHint"),
-        (Instruction::shift(2, 1, 4, 31).encode(), "9, BadRegister"),
         (Instruction::shift(1, 1, 4, 31).encode(), "10, Overlap"),
     ];
+    let place = "offset 9 bytes from the program's start";
     for (bytes, name) in bad {
         fs::write(desk.path("program"), [good.clone(), bytes].concat()).expect("written");
-        refused(&desk, ["2", "4", "1", "2"], &format!("{name}, offset 9 bytes from the program's start"));
+        refused(&desk, ["2", "4", "1", "2"], &format!("{name}, {place}"));
     }
+    let past_the_rows = Instruction::shift(2, 1, 4, 31).encode();
+    fs::write(desk.path("program"), [good.clone(), past_the_rows].concat()).expect("written");
+    refused(&desk, ["2", "4", "1", "2"], &format!("9, BadRegister, {place} (ROWS is 2)"));
     fs::write(desk.path("program"), vec![0; 65_537]).expect("written");
     refused(&desk, ["2", "4", "1", "2"], "3, TooLong, no offset");
+}
+
+/// A file without an end is not read to its end.
+#[test]
+fn files_without_an_end() {
+    let desk = Desk::with_the_documents_batch();
+    let [program, values, output] = ["program", "values", "output"].map(|name| desk.path(name).into_os_string());
+    let job = |program: &OsString, values: &OsString| {
+        let [rows, width, cap, cuts] = ["2", "4", "1", "none"].map(OsString::from);
+        command(&[program.clone(), rows, width, values.clone(), cap, cuts, output.clone()])
+    };
+    let endless = OsString::from("/dev/zero");
+    let line = |rest: &str| (1, String::new(), format!("fill: refused, number {rest}\n"));
+    assert_eq!(job(&endless, &values), line("3, TooLong, no offset"));
+    let shape = "1, BadShape, no offset (2 rows x 4 parcels are 8 words, and VALUES has more than 8)";
+    assert_eq!(job(&program, &endless), line(shape));
+    assert_eq!(desk.output(), None);
 }
 
 /// No job: a line that names what is wrong, status 2, nothing written.
