@@ -28,6 +28,8 @@ use Rattle.builder.specs.Call.{
   iaddCarry,
   isubBinBout,
   imul,
+  iadd32CinCout,
+  iadd32Cout,
   assertEq,
   assertEqCond,
   assertZero,
@@ -52,6 +54,8 @@ Typed (iaddCinCout a b c d e) = allBelow (2 ^ 32) (a ∷ b ∷ c ∷ d ∷ e ∷
 Typed (iaddCarry a b c) = allBelow (2 ^ 32) (a ∷ b ∷ c ∷ []) ≡ true
 Typed (isubBinBout a b c d e) = allBelow (2 ^ 32) (a ∷ b ∷ c ∷ d ∷ e ∷ []) ≡ true
 Typed (imul a b c d) = allBelow (2 ^ 32) (a ∷ b ∷ c ∷ d ∷ []) ≡ true
+Typed (iadd32CinCout a b c d e) = allBelow (2 ^ 32) (a ∷ b ∷ c ∷ d ∷ e ∷ []) ≡ true
+Typed (iadd32Cout a b c d) = allBelow (2 ^ 32) (a ∷ b ∷ c ∷ d ∷ []) ≡ true
 Typed (assertEq a b c) = allBelow (2 ^ 32) (a ∷ b ∷ c ∷ []) ≡ true
 Typed (assertEqCond a b c d) = allBelow (2 ^ 32) (a ∷ b ∷ c ∷ d ∷ []) ≡ true
 Typed (assertZero a b) = allBelow (2 ^ 32) (a ∷ b ∷ []) ≡ true
@@ -94,6 +98,8 @@ call-formed (iaddCinCout a b c d e) t v m h = parted (laid (iaddCinCout a b c d 
 call-formed (iaddCarry a b c) t v m h = parted (laid (iaddCarry a b c)) (refl, refl, refl) t
 call-formed (isubBinBout a b c d e) t v m h = parted (laid (isubBinBout a b c d e)) (refl, refl, refl) t
 call-formed (imul a b c d) t v m h = parted (laid (imul a b c d)) (refl, refl, refl) t
+call-formed (iadd32CinCout a b c d e) t v m h = parted (laid (iadd32CinCout a b c d e)) (refl, refl, refl) t
+call-formed (iadd32Cout a b c d) t v m h = parted (laid (iadd32Cout a b c d)) (refl, refl, refl) t
 call-formed (assertEq a b c) t v m h = parted (laid (assertEq a b c)) (refl, refl, refl) t
 call-formed (assertEqCond a b c d) t v m h = parted (laid (assertEqCond a b c d)) (refl, refl, refl) t
 call-formed (assertZero a b) t v m h = parted (laid (assertZero a b)) (refl, refl, refl) t
@@ -119,6 +125,8 @@ case-call (iaddCinCout a b c d e) = refl
 case-call (iaddCarry a b c) = refl
 case-call (isubBinBout a b c d e) = refl
 case-call (imul a b c d) = refl
+case-call (iadd32CinCout a b c d e) = refl
+case-call (iadd32Cout a b c d) = refl
 case-call (assertEq a b c) = refl
 case-call (assertEqCond a b c d) = refl
 case-call (assertZero a b) = refl

@@ -17,6 +17,8 @@ pub data Call : Type 0 where
   iaddCarry : ℕ → ℕ → ℕ → Call
   isubBinBout : ℕ → ℕ → ℕ → ℕ → ℕ → Call
   imul : ℕ → ℕ → ℕ → ℕ → Call
+  iadd32CinCout : ℕ → ℕ → ℕ → ℕ → ℕ → Call
+  iadd32Cout : ℕ → ℕ → ℕ → ℕ → Call
   assertEq : ℕ → ℕ → ℕ → Call
   assertEqCond : ℕ → ℕ → ℕ → ℕ → Call
   assertZero assertNonZero assertFalse assertTrue : ℕ → ℕ → Call
@@ -35,6 +37,8 @@ laid (iaddCinCout d e a b c) = make 0x21 (d ∷ e ∷ []) (a ∷ b ∷ c ∷ [])
 laid (iaddCarry d a b) = make 0x22 (d ∷ []) (a ∷ b ∷ []) []
 laid (isubBinBout d e a b c) = make 0x23 (d ∷ e ∷ []) (a ∷ b ∷ c ∷ []) []
 laid (imul h l a b) = make 0x30 (h ∷ l ∷ []) (a ∷ b ∷ []) []
+laid (iadd32CinCout d e a b c) = make 0x40 (d ∷ e ∷ []) (a ∷ b ∷ c ∷ []) []
+laid (iadd32Cout d e a b) = make 0x46 (d ∷ e ∷ []) (a ∷ b ∷ []) []
 laid (assertEq a b p) = make 0x60 [] (a ∷ b ∷ []) (p ∷ [])
 laid (assertEqCond c a b p) = make 0x61 [] (c ∷ a ∷ b ∷ []) (p ∷ [])
 laid (assertZero a p) = make 0x62 [] (a ∷ []) (p ∷ [])
@@ -56,6 +60,8 @@ caseOf (iaddCinCout d e a b c) = I.IaddCinCout d e a b c
 caseOf (iaddCarry d a b) = I.IaddCarry d a b
 caseOf (isubBinBout d e a b c) = I.IsubBinBout d e a b c
 caseOf (imul h l a b) = I.Imul h l a b
+caseOf (iadd32CinCout d e a b c) = I.Iadd32CinCout d e a b c
+caseOf (iadd32Cout d e a b) = I.Iadd32Cout d e a b
 caseOf (assertEq a b p) = I.AssertEq a b p
 caseOf (assertEqCond c a b p) = I.AssertEqCond c a b p
 caseOf (assertZero a p) = I.AssertZero a p
@@ -77,6 +83,8 @@ callOf s (I.IaddCinCout d e a b c) = iaddCinCout d e a b c
 callOf s (I.IaddCarry d a b) = iaddCarry d a b
 callOf s (I.IsubBinBout d e a b c) = isubBinBout d e a b c
 callOf s (I.Imul h l a b) = imul h l a b
+callOf s (I.Iadd32CinCout d e a b c) = iadd32CinCout d e a b c
+callOf s (I.Iadd32Cout d e a b) = iadd32Cout d e a b
 callOf s (I.AssertEq a b p) = assertEq a b p
 callOf s (I.AssertEqCond c a b p) = assertEqCond c a b p
 callOf s (I.AssertZero a p) = assertZero a p

@@ -24,6 +24,8 @@ ghost use Rattle.builder.specs.Call.{
   iaddCarry,
   isubBinBout,
   imul,
+  iadd32CinCout,
+  iadd32Cout,
   assertEq,
   assertEqCond,
   assertZero,
@@ -237,6 +239,36 @@ impl BytecodeBuilder {
     {
         let ws = [hi, lo, src1, src2];
         self.emit_fields(buf, 0x30, &ws)
+    }
+
+    // Two sums and two carry words, one of each half, in one word each.
+    pub fn emit_iadd32_cin_cout(
+        self,
+        buf: &mut [u8],
+        sums: u32,
+        couts: u32,
+        src1: u32,
+        src2: u32,
+        cins: u32,
+    ) -> Emitted
+        ensures { λ r. ⌜ Emits (iadd32CinCout sums couts src1 src2 cins) self (now (buf .entry)) r (now (buf .exit)) ⌝ }
+    {
+        let ws = [sums, couts, src1, src2, cins];
+        self.emit_fields(buf, 0x40, &ws)
+    }
+
+    pub fn emit_iadd32_cout(
+        self,
+        buf: &mut [u8],
+        sums: u32,
+        couts: u32,
+        src1: u32,
+        src2: u32,
+    ) -> Emitted
+        ensures { λ r. ⌜ Emits (iadd32Cout sums couts src1 src2) self (now (buf .entry)) r (now (buf .exit)) ⌝ }
+    {
+        let ws = [sums, couts, src1, src2];
+        self.emit_fields(buf, 0x46, &ws)
     }
 
     pub fn emit_assert_eq(self, buf: &mut [u8], src1: u32, src2: u32, path: u32) -> Emitted

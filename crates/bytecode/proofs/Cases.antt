@@ -30,6 +30,8 @@ enumCase i =
     cond (eqb (i .op) 0x22) (I.IaddCarry (getD (i .dests) 0 0) (getD (i .sources) 0 0) (getD (i .sources) 1 0)) (
     cond (eqb (i .op) 0x23) (I.IsubBinBout (getD (i .dests) 0 0) (getD (i .dests) 1 0) (getD (i .sources) 0 0) (getD (i .sources) 1 0) (getD (i .sources) 2 0)) (
     cond (eqb (i .op) 0x30) (I.Imul (getD (i .dests) 0 0) (getD (i .dests) 1 0) (getD (i .sources) 0 0) (getD (i .sources) 1 0)) (
+    cond (eqb (i .op) 0x40) (I.Iadd32CinCout (getD (i .dests) 0 0) (getD (i .dests) 1 0) (getD (i .sources) 0 0) (getD (i .sources) 1 0) (getD (i .sources) 2 0)) (
+    cond (eqb (i .op) 0x46) (I.Iadd32Cout (getD (i .dests) 0 0) (getD (i .dests) 1 0) (getD (i .sources) 0 0) (getD (i .sources) 1 0)) (
     cond (eqb (i .op) 0x60) (I.AssertEq (getD (i .sources) 0 0) (getD (i .sources) 1 0) (getD (i .numbers) 0 0)) (
     cond (eqb (i .op) 0x61) (I.AssertEqCond (getD (i .sources) 0 0) (getD (i .sources) 1 0) (getD (i .sources) 2 0) (getD (i .numbers) 0 0)) (
     cond (eqb (i .op) 0x62) (I.AssertZero (getD (i .sources) 0 0) (getD (i .numbers) 0 0)) (
@@ -37,7 +39,7 @@ enumCase i =
     cond (eqb (i .op) 0x64) (I.AssertFalse (getD (i .sources) 0 0) (getD (i .numbers) 0 0)) (
     cond (eqb (i .op) 0x65) (I.AssertTrue (getD (i .sources) 0 0) (getD (i .numbers) 0 0)) (
     cond (eqb (i .op) 0x06) (I.BxorMulti (getD (i .dests) 0 0) (length (i .sources)))
-    (I.Hint (getD (i .numbers) 0 0) (length (drop 1 (i .numbers))) (length (i .sources)) (length (i .dests)))))))))))))))))))
+    (I.Hint (getD (i .numbers) 0 0) (length (drop 1 (i .numbers))) (length (i .sources)) (length (i .dests)))))))))))))))))))))
 
 pub case-inst : (s : List ℕ) (i : Instruction) → enumCase (inst s i) ≡ i
 unfolding enumCase inst
@@ -51,6 +53,8 @@ case-inst s (I.IaddCinCout a b c d e) = refl
 case-inst s (I.IaddCarry a b c) = refl
 case-inst s (I.IsubBinBout a b c d e) = refl
 case-inst s (I.Imul a b c d) = refl
+case-inst s (I.Iadd32CinCout a b c d e) = refl
+case-inst s (I.Iadd32Cout a b c d) = refl
 case-inst s (I.AssertEq a b c) = refl
 case-inst s (I.AssertEqCond a b c d) = refl
 case-inst s (I.AssertZero a b) = refl

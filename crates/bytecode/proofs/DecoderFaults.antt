@@ -54,21 +54,15 @@ unknown-in (l ∷ ls) h op =
 unknown-is : (op : ℕ) → isUnknown (shapeOf op) ≡ not (member op opcodes)
 unknown-is op = unknown-in table refl op
 
-abbrev uncarried : List ℕ
-uncarried = 0x31 ∷ 0x40 ∷ 0x46 ∷ []
-
-uncarried-of : (op : ℕ) → isNotCarried (shapeOf op) ≡ true → member op uncarried ≡ true
-uncarried-of op e = imply (isNotCarried (shapeOf op)) (member op uncarried) (look-up (λ b sh. not (isNotCarried sh) || member b uncarried) (λ b. refl) table refl op) e
+uncarried-of : (op : ℕ) → isNotCarried (shapeOf op) ≡ true → op ≡ 0x31
+uncarried-of op e = eqb-true op 0x31 (imply (isNotCarried (shapeOf op)) (eqb op 0x31) (look-up (λ b sh. not (isNotCarried sh) || eqb b 0x31) (λ b. refl) table refl op) e)
   where
     imply : (p q : Bool) → (not p || q) ≡ true → p ≡ true → q ≡ true
     imply true q e h = e
     imply false q e h = let z : _≡_ {A = ℕ} 0 1 = cc in absurd (omega arith)
 
-of-uncarried : (op : ℕ) → member op uncarried ≡ true → isNotCarried (shapeOf op) ≡ true
-of-uncarried op e = one 0x31 (0x40 ∷ 0x46 ∷ []) refl (λ e. one 0x40 (0x46 ∷ []) refl (λ e. one 0x46 [] refl (λ e. let z : _≡_ {A = ℕ} 0 1 = cc in absurd (omega arith)) e) e) e
-  where
-    one : (b : ℕ) (bs : List ℕ) → isNotCarried (shapeOf b) ≡ true → (member op bs ≡ true → isNotCarried (shapeOf op) ≡ true) → member op (b ∷ bs) ≡ true → isNotCarried (shapeOf op) ≡ true
-    one b bs h k e = settle b op (λ z. ap (λ (n : ℕ). isNotCarried (shapeOf n)) (sym z) ∙ h) (λ n. k (rw (ne-eqb b op n) at e))
+of-uncarried : (op : ℕ) → op ≡ 0x31 → isNotCarried (shapeOf op) ≡ true
+of-uncarried op e = ap (λ (n : ℕ). isNotCarried (shapeOf n)) e
 
 -- ---- 6
 
@@ -210,3 +204,20 @@ decoder-exactly s k o = (
       let f = first-exactly (decoderRules s) refl (DecoderFault s) (fault-holds s) (holds-fault s) k p .1 (h .1) in
       parse-first s ∙ ap (λ (m : ℕ). answered m (whole (read s) (lengthOf (sizeAs (shapeOf (getD s 0 0)) s)))) f ∙ answered-given k _ p ∙ ap (refused k) (sym (h .0)),
 )
+
+-- 5 is given for 0x31 and for no other byte
+pub not-carried-alone : (s : List ℕ) (o : ℕ) → (parse s ≡ refused 5 o) ↔ ((o ≡ 0) × ((0 < length s) × (getD s 0 0 ≡ 0x31)))
+not-carried-alone s o = (
+  λ e. let h = decoder-exactly s 5 o .0 e in (h .0, bmul s (h .1 .given)),
+  λ h. decoder-exactly s 5 o .1 (h .0, record { given = notCarried (h .1 .0) (h .1 .1); first = λ j l f. lower s (h .1 .0) (h .1 .1) j l f }),
+)
+  where
+    bmul : (s : List ℕ) → DecoderFault s 5 → (0 < length s) × (getD s 0 0 ≡ 0x31)
+    bmul s (notCarried h e) = (h, e)
+
+    lower : (s : List ℕ) → 0 < length s → getD s 0 0 ≡ 0x31 → (j : ℕ) → j < 5 → DecoderFault s j → ⊥
+    lower s h e j l (unknownOpcode z f) = let q : _≡_ {A = ℕ} 0 1 = cc in omega arith
+    lower s h e j l (notCarried z f) = omega arith
+    lower s h e j l (noBytes z) = omega arith
+    lower s h e j l (truncated z) = omega arith
+    lower s h e j l (badVariantByte z f) = omega arith

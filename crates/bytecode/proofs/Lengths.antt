@@ -16,11 +16,11 @@ use Rattle.bytecode.proofs.Parses.{whole-read}
 abbrev sizes : List ℕ → List ℕ → List Size
 sizes s = map (λ (op : ℕ). sizeAs (shapeOf op) s)
 
--- Band, Bor, Bxor, IaddCarry 13; Select, Fax 17; Shift 11; IaddCinCout, IsubBinBout 21; Imul 17; AssertEq 13; AssertEqCond 17; the four other
+-- Band, Bor, Bxor, IaddCarry 13; Select, Fax 17; Shift 11; IaddCinCout, IsubBinBout 21; Imul 17; Iadd32CinCout 21; Iadd32Cout 17; AssertEq 13; AssertEqCond 17; the four other
 -- assertions 9
 pub fixed-lengths : (s : List ℕ)
-    → sizes s (0x01 ∷ 0x02 ∷ 0x03 ∷ 0x22 ∷ 0x05 ∷ 0x07 ∷ 0x10 ∷ 0x21 ∷ 0x23 ∷ 0x30 ∷ 0x60 ∷ 0x61 ∷ 0x62 ∷ 0x63 ∷ 0x64 ∷ 0x65 ∷ [])
-    ≡ map Bytes (13 ∷ 13 ∷ 13 ∷ 13 ∷ 17 ∷ 17 ∷ 11 ∷ 21 ∷ 21 ∷ 17 ∷ 13 ∷ 17 ∷ 9 ∷ 9 ∷ 9 ∷ 9 ∷ [])
+    → sizes s (0x01 ∷ 0x02 ∷ 0x03 ∷ 0x22 ∷ 0x05 ∷ 0x07 ∷ 0x10 ∷ 0x21 ∷ 0x23 ∷ 0x30 ∷ 0x40 ∷ 0x46 ∷ 0x60 ∷ 0x61 ∷ 0x62 ∷ 0x63 ∷ 0x64 ∷ 0x65 ∷ [])
+    ≡ map Bytes (13 ∷ 13 ∷ 13 ∷ 13 ∷ 17 ∷ 17 ∷ 11 ∷ 21 ∷ 21 ∷ 17 ∷ 21 ∷ 17 ∷ 13 ∷ 17 ∷ 9 ∷ 9 ∷ 9 ∷ 9 ∷ [])
 unfolding sizeAs
 fixed-lengths s = refl
 

@@ -29,7 +29,7 @@ TooShort S.Hint s =
 -- what each number is given for, of the instruction at the start of the bytes
 pub data DecoderFault (s : List ℕ) : ℕ → Type 0 where
   unknownOpcode : 0 < length s → member (getD s 0 0) opcodes ≡ false → DecoderFault s 4
-  notCarried : 0 < length s → member (getD s 0 0) (0x31 ∷ 0x40 ∷ 0x46 ∷ []) ≡ true → DecoderFault s 5
+  notCarried : 0 < length s → getD s 0 0 ≡ 0x31 → DecoderFault s 5
   noBytes : length s ≡ 0 → DecoderFault s 6
   truncated : TooShort (shapeOf (getD s 0 0)) s → DecoderFault s 6
   badVariantByte : getD s 0 0 ≡ 0x10 → 7 < getD s 9 0 → DecoderFault s 7

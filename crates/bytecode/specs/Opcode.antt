@@ -30,8 +30,8 @@ table =
     line 0x23 (Fixed 2 3 0) ∷  -- IsubBinBout
     line 0x30 (Fixed 2 2 0) ∷  -- Imul
     line 0x31 NotCarried ∷  -- Bmul
-    line 0x40 NotCarried ∷  -- Iadd32CinCout
-    line 0x46 NotCarried ∷  -- Iadd32Cout
+    line 0x40 (Fixed 2 3 0) ∷  -- Iadd32CinCout
+    line 0x46 (Fixed 2 2 0) ∷  -- Iadd32Cout
     line 0x60 (Fixed 0 2 1) ∷  -- AssertEq
     line 0x61 (Fixed 0 3 1) ∷  -- AssertEqCond
     line 0x62 (Fixed 0 1 1) ∷  -- AssertZero

@@ -67,6 +67,8 @@ fn instruction_of(code: &[u8], op: u8) -> Instruction
         0x22 => Instruction::IaddCarry(f.a, f.b, f.c),
         0x23 => Instruction::IsubBinBout(f.a, f.b, f.c, f.d, f.e),
         0x30 => Instruction::Imul(f.a, f.b, f.c, f.d),
+        0x40 => Instruction::Iadd32CinCout(f.a, f.b, f.c, f.d, f.e),
+        0x46 => Instruction::Iadd32Cout(f.a, f.b, f.c, f.d),
         0x60 => Instruction::AssertEq(f.a, f.b, f.c),
         0x61 => Instruction::AssertEqCond(f.a, f.b, f.c, f.d),
         0x62 => Instruction::AssertZero(f.a, f.b),

@@ -15,6 +15,8 @@ pub enum Instruction {
     IaddCarry(u32, u32, u32),
     IsubBinBout(u32, u32, u32, u32, u32),
     Imul(u32, u32, u32, u32),
+    Iadd32CinCout(u32, u32, u32, u32, u32),
+    Iadd32Cout(u32, u32, u32, u32),
     AssertEq(u32, u32, u32),
     AssertEqCond(u32, u32, u32, u32),
     AssertZero(u32, u32),

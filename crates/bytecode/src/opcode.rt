@@ -34,8 +34,8 @@ pub fn shape_of(op: u8) -> Shape
         0x23 => Shape::Fixed(2, 3, 0), // IsubBinBout
         0x30 => Shape::Fixed(2, 2, 0), // Imul
         0x31 => Shape::NotCarried, // Bmul
-        0x40 => Shape::NotCarried, // Iadd32CinCout
-        0x46 => Shape::NotCarried, // Iadd32Cout
+        0x40 => Shape::Fixed(2, 3, 0), // Iadd32CinCout
+        0x46 => Shape::Fixed(2, 2, 0), // Iadd32Cout
         0x60 => Shape::Fixed(0, 2, 1), // AssertEq
         0x61 => Shape::Fixed(0, 3, 1), // AssertEqCond
         0x62 => Shape::Fixed(0, 1, 1), // AssertZero

@@ -6,7 +6,7 @@ use native.Mathlib.Nat.{eq-or-lt-of-le, mul-assoc, add-mul-mod-self-right, mod-o
 use native.Mathlib.Numerals.{one-add}
 use native.Mathlib.Omega.{arith}
 use lib.Dec.{lit<}
-use lib.Arith.{le-zero, bin-ind}
+use lib.Arith.{le-zero, bin-ind, digits-lt}
 use lib.Bits.{bitAnd, bitOr, bitXor, differ, xor-step, and-shr, or-shr, xor-shr, and-mod, or-mod, xor-mod}
 use lib.Pow.{pow-pos, pow-add, mod-pow-add, mod-mod-pow, field, split, high, low, shr-mod, ones-split, shr-lt, le-ones}
 use Rattle.common.specs.Bits.{bitAt, word}
@@ -108,6 +108,11 @@ not-parts : (j i x : ℕ) → x < 2 ^ (j + i) → 2 ^ (j + i) - 1 - x ≡ (2 ^ j
 not-parts j i x l =
     let below : x / 2 ^ i ≤ 2 ^ j - 1 = le-ones j (shr-lt j i l) in
     omega (arith, ones-split j i, split x i, sub-mul (2 ^ j - 1) (x / 2 ^ i) (2 ^ i), mul-le-mul-right (2 ^ i) below, mod-lt x (pow-pos i))
+
+-- `!x` of a number of two halves
+pub not-halves : (w x y : ℕ) → x < 2 ^ w → y < 2 ^ w → 2 ^ (w + w) - 1 - (x * 2 ^ w + y) ≡ (2 ^ w - 1 - x) * 2 ^ w + (2 ^ w - 1 - y)
+not-halves w x y hx hy =
+    not-parts w w (x * 2 ^ w + y) (rw (pow-add 2 w w) (digits-lt hx hy)) ∙ (λ i. (2 ^ w - 1 - high x w hy i) * 2 ^ w + (2 ^ w - 1 - low x w hy i))
 
 not-shr : (j i x : ℕ) → x < 2 ^ (j + i) → (2 ^ (j + i) - 1 - x) / 2 ^ i ≡ 2 ^ j - 1 - x / 2 ^ i
 not-shr j i x l = ap (λ (n : ℕ). n / 2 ^ i) (not-parts j i x l) ∙ high (2 ^ j - 1 - x / 2 ^ i) i (omega (arith, pow-pos i))

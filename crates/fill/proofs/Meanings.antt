@@ -47,7 +47,7 @@ make-at (l ∷ ls) ns ws a op =
 -- the opcode table and the rules agree
 table-makes : (ns ws : List ℕ) → AllMake table ns ws
 table-makes ns ws =
-    (refl, (refl, (refl, (refl, (refl, (refl, (refl, (refl, (refl, (refl, (refl, (tt, (tt, (tt, (refl, (refl, (refl, (refl, (refl, (refl, (tt, tt)))))))))))))))))))))
+    (refl, (refl, (refl, (refl, (refl, (refl, (refl, (refl, (refl, (refl, (refl, (tt, (refl, (refl, (refl, (refl, (refl, (refl, (refl, (refl, (tt, tt)))))))))))))))))))))
 
 hint-makes : {id : ℕ} {ds : List ℕ} {i o : ℕ} → Listed id ds i o → (ns ws : List ℕ) → length ws ≡ i → length (made hints id ns ws) ≡ o
 hint-makes divide ns ws e = refl

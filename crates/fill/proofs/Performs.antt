@@ -12,7 +12,7 @@ use Rattle.common.proofs.Below.{below-head, below-tail}
 use Rattle.shift.specs.Variant.{widthOf, variantOf, badVariant, badAmount}
 use Rattle.shift.proofs.Codes.{let-by}
 use Rattle.bytecode.specs.Layout.{words}
-use Rattle.bytecode.specs.Instruction.{inst}
+use Rattle.bytecode.specs.Instruction.{Inst, inst}
 use Rattle.bytecode.specs.declared.instruction.Instruction.{Instruction}
 use Rattle.bytecode.specs.declared.instruction.Instruction.the-variants as I
 use Rattle.bytecode.proofs.Words.{length-words}
@@ -26,6 +26,10 @@ use Rattle.rows.proofs.Columns.{words-of-part}
 pub rows-in : (s : Stripe) {n : ℕ} → n ≡ s .rows * s .width → (rs : List ℕ) → allBelow (s .rows) rs ≡ true → InRows s n rs
 rows-in s e [] b = tt
 rows-in s e (r ∷ rs) b = (in-row s e (below-head (s .rows) r rs b), rows-in s e rs (below-tail (s .rows) r rs b))
+
+-- the destinations and the sources of a checked instruction
+pub registers-in : (s : Stripe) {n : ℕ} → n ≡ s .rows * s .width → (i : Inst) → Sound (s .rows) i → InRows s n (i .dests) × InRows s n (i .sources)
+registers-in s e i S = (rows-in s e (i .dests) (S .dests-below), rows-in s e (i .sources) (S .sources-below))
 
 -- ---- a shift's amount
 

@@ -42,6 +42,8 @@ claim-notes bytes n (I.IaddCinCout a b c d e) col = refl
 claim-notes bytes n (I.IaddCarry a b c) col = refl
 claim-notes bytes n (I.IsubBinBout a b c d e) col = refl
 claim-notes bytes n (I.Imul a b c d) col = refl
+claim-notes bytes n (I.Iadd32CinCout a b c d e) col = refl
+claim-notes bytes n (I.Iadd32Cout a b c d) col = refl
 claim-notes bytes n (I.Hint a b c d) col = refl
 claim-notes bytes n (I.AssertEq a b c) col = refl
 claim-notes bytes n (I.AssertEqCond a b c d) col = refl
@@ -69,6 +71,8 @@ claim-reads bytes rows (I.IaddCinCout a b c d e) s = tt
 claim-reads bytes rows (I.IaddCarry a b c) s = tt
 claim-reads bytes rows (I.IsubBinBout a b c d e) s = tt
 claim-reads bytes rows (I.Imul a b c d) s = tt
+claim-reads bytes rows (I.Iadd32CinCout a b c d e) s = tt
+claim-reads bytes rows (I.Iadd32Cout a b c d) s = tt
 claim-reads bytes rows (I.Hint a b c d) s = tt
 claim-reads bytes rows (I.AssertEq a b p) s = let h = two-below rows a b (s .sources-below) in (h .0, h .0, h .1)
 claim-reads bytes rows (I.AssertEqCond c a b p) s =

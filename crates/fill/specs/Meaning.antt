@@ -6,7 +6,7 @@ use lib.ListN.{getD}
 use lib.Dec.{eqb}
 use lib.Bits.{bitAnd, bitOr, bitXor}
 use Rattle.common.specs.Bits.{bitAt}
-use Rattle.word.specs.Arithmetic.{sumWord, carryWord, differenceWord, borrowWord, highWord, lowWord}
+use Rattle.word.specs.Arithmetic.{sumWord, carryWord, sumHalves, carryHalves, differenceWord, borrowWord, highWord, lowWord}
 use Rattle.word.specs.Bitwise.{faxWord, selectWord, xorAll}
 use Rattle.word.specs.Hints.{quotientOf, remainderOf, zerosAbove}
 use Rattle.word.specs.Assertions.{eqFails, eqCondFails, zeroFails, nonZeroFails, falseFails, trueFails}
@@ -43,7 +43,7 @@ hints =
     rule 3 (λ ns ws. reverse ws) ∷
     []
 
--- the opcodes; the carry-in and the borrow-in are bit 63 of their word
+-- the opcodes; the carry-in and the borrow-in are bit 63 of their word, and by halves the top bit of each half; a word of 0 carries nothing in
 abbrev pub opcodes : List Rule
 opcodes =
     rule 0x01 (λ ns ws. bitAnd (nth ws 0) (nth ws 1) ∷ []) ∷  -- Band
@@ -57,6 +57,8 @@ opcodes =
     rule 0x22 (λ ns ws. carryWord 64 (nth ws 0) (nth ws 1) 0 ∷ []) ∷  -- IaddCarry
     rule 0x23 (λ ns ws. differenceWord 64 (nth ws 0) (nth ws 1) (bitAt (nth ws 2) 63) ∷ borrowWord 64 (nth ws 0) (nth ws 1) (bitAt (nth ws 2) 63) ∷ []) ∷  -- IsubBinBout
     rule 0x30 (λ ns ws. highWord 64 (nth ws 0) (nth ws 1) ∷ lowWord 64 (nth ws 0) (nth ws 1) ∷ []) ∷  -- Imul
+    rule 0x40 (λ ns ws. sumHalves (nth ws 0) (nth ws 1) (nth ws 2) ∷ carryHalves (nth ws 0) (nth ws 1) (nth ws 2) ∷ []) ∷  -- Iadd32CinCout
+    rule 0x46 (λ ns ws. sumHalves (nth ws 0) (nth ws 1) 0 ∷ carryHalves (nth ws 0) (nth ws 1) 0 ∷ []) ∷  -- Iadd32Cout
     rule 0x80 (λ ns ws. made hints (nth ns 0) ns ws) ∷  -- Hint
     []
 

@@ -44,6 +44,8 @@ pub fn claim_of(i: Instruction) -> Claim
         Instruction::IaddCarry(_, _, _) => Claim::Nothing,
         Instruction::IsubBinBout(_, _, _, _, _) => Claim::Nothing,
         Instruction::Imul(_, _, _, _) => Claim::Nothing,
+        Instruction::Iadd32CinCout(_, _, _, _, _) => Claim::Nothing,
+        Instruction::Iadd32Cout(_, _, _, _) => Claim::Nothing,
         Instruction::Hint(_, _, _, _) => Claim::Nothing,
         Instruction::AssertEq(a, b, path) => Claim::About(Kind::Eq, a, a, b, path),
         Instruction::AssertEqCond(c, a, b, path) => Claim::About(Kind::EqCond, c, a, b, path),

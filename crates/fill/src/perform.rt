@@ -93,6 +93,17 @@ pub fn perform(values: &mut [u64], s: Stripe, i: Instruction, code: &[u8])
             c,
         ),
         Instruction::Imul(h, l, a, b) => two_rows(values, s, kind::MULTIPLY, h, l, a, b, b),
+        Instruction::Iadd32CinCout(d, e, a, b, c) => two_rows(
+            values,
+            s,
+            kind::ADD32_CIN,
+            d,
+            e,
+            a,
+            b,
+            c,
+        ),
+        Instruction::Iadd32Cout(d, e, a, b) => two_rows(values, s, kind::ADD32, d, e, a, b, b),
         Instruction::AssertEq(_, _, _) => {}
         Instruction::AssertEqCond(_, _, _, _) => {}
         Instruction::AssertZero(_, _) => {}

@@ -6,7 +6,7 @@ use mathlib.Core.List.{List, [], _∷_}
 use lib.ListN.{length, getD}
 use lib.Bits.{bitAnd, bitOr, bitXor}
 use Rattle.common.specs.Bits.{bitAt}
-use Rattle.word.specs.Arithmetic.{sumWord, carryWord, differenceWord, borrowWord, highWord, lowWord}
+use Rattle.word.specs.Arithmetic.{sumWord, carryWord, sumHalves, carryHalves, differenceWord, borrowWord, highWord, lowWord}
 use Rattle.word.specs.Bitwise.{faxWord, selectWord}
 use Rattle.word.specs.Hints.{quotientOf, remainderOf, zerosAbove}
 use Rattle.rows.specs.Column.{Col, column}
@@ -20,14 +20,18 @@ oneWord kind x y z =
     (0 ∷ x ∷ bitAnd x y ∷ bitOr x y ∷ bitXor x y ∷ carryWord 64 x y 0 ∷ selectWord x y z ∷ faxWord x y z ∷ zerosAbove 64 x ∷ [])
     kind (zerosAbove 64 x)
 
--- add, subtract, multiply, divide
+-- add, subtract, multiply, add by halves with carry-ins and without, divide
 abbrev pub firstWord : ℕ → ℕ → ℕ → ℕ → ℕ
 firstWord kind x y z =
-    getD (sumWord 64 x y (bitAt z 63) ∷ differenceWord 64 x y (bitAt z 63) ∷ highWord 64 x y ∷ quotientOf x y ∷ []) kind (quotientOf x y)
+    getD
+    (sumWord 64 x y (bitAt z 63) ∷ differenceWord 64 x y (bitAt z 63) ∷ highWord 64 x y ∷ sumHalves x y z ∷ sumHalves x y 0 ∷ quotientOf x y ∷ [])
+    kind (quotientOf x y)
 
 abbrev pub secondWord : ℕ → ℕ → ℕ → ℕ → ℕ
 secondWord kind x y z =
-    getD (carryWord 64 x y (bitAt z 63) ∷ borrowWord 64 x y (bitAt z 63) ∷ lowWord 64 x y ∷ remainderOf x y ∷ []) kind (remainderOf x y)
+    getD
+    (carryWord 64 x y (bitAt z 63) ∷ borrowWord 64 x y (bitAt z 63) ∷ lowWord 64 x y ∷ carryHalves x y z ∷ carryHalves x y 0 ∷ remainderOf x y ∷ [])
+    kind (remainderOf x y)
 
 -- ---- a function run across a stripe
 

@@ -32,7 +32,13 @@ pub const SUBTRACT: u8 = 1;
 
 pub const MULTIPLY: u8 = 2;
 
-pub const DIVIDE: u8 = 3;
+// By halves, with the third word's carry-ins.
+pub const ADD32_CIN: u8 = 3;
+
+// By halves, with none.
+pub const ADD32: u8 = 4;
+
+pub const DIVIDE: u8 = 5;
 
 pub struct Pair {
     pub first: u64,
@@ -66,7 +72,7 @@ fn product(x: u64, y: u64) -> Pair
 }
 
 fn division(x: u64, y: u64) -> Pair
-    ensures { λ r. ⌜ (r .first ≡ firstWord 3 x y 0) × (r .second ≡ secondWord 3 x y 0) ⌝ }
+    ensures { λ r. ⌜ (r .first ≡ firstWord 5 x y 0) × (r .second ≡ secondWord 5 x y 0) ⌝ }
 {
     let d = word::hints::divide(x, y);
     Pair {
@@ -88,6 +94,14 @@ pub fn words_of(kind: u8, x: u64, y: u64, z: u64) -> Pair
             second: word::arithmetic::borrows(x, y, z),
         },
         MULTIPLY => product(x, y),
+        ADD32_CIN => Pair {
+            first: word::arithmetic::sum32(x, y, z),
+            second: word::arithmetic::carries32(x, y, z),
+        },
+        ADD32 => Pair {
+            first: word::arithmetic::sum32(x, y, 0),
+            second: word::arithmetic::carries32(x, y, 0),
+        },
         _ => division(x, y),
     }
 }

@@ -3,15 +3,15 @@ use mathlib.Core.Path.{_≡_, refl, sym, ap, ap₂, _∙_}
 use mathlib.Core.Bool.{Bool, true, false}
 use borrow.Author.Tests.{leb-true, leb-false}
 use Prim.Native.Nat.{ℕ, zero, suc, _+_, _-_, _*_, _/_, _%_, _^_, _<_}
-use native.Mathlib.Nat.{mod-lt, div-eq-of-lt, div-eq-of-lt-le, add-mul-div-right, add-comm, add-mul, div-div-eq-div-mul, pow-suc}
+use native.Mathlib.Nat.{mod-lt, mod-add-mod, div-eq-of-lt, div-eq-of-lt-le, add-mul-div-right, add-comm, add-mul, div-div-eq-div-mul, pow-suc}
 use native.Mathlib.Numerals.{add-one}
 use native.Mathlib.Omega.{arith}
 use lib.Dec.{lit<, leb}
-use lib.Bits.{bitAnd, bitOr, bitXor, and-lt, or-lt, xor-lt}
+use lib.Bits.{bitAnd, bitOr, bitXor, and-lt, or-lt, xor-lt, and-block, or-block, xor-block}
 use lib.Pow.{pow-pos, ones-sub-lt, split}
 use Rattle.common.specs.Bits.{bit, bitAt}
 use Rattle.word.specs.Arithmetic.{sumWord, carryInto, carryWord}
-use Rattle.common.proofs.Digits.{mod-suc-pow, bitAt-lt, is-word, bit-and, bit-or, bit-xor, bit-not, bit-mod, three}
+use Rattle.common.proofs.Digits.{mod-suc-pow, bitAt-lt, top-bit, is-word, bit-and, bit-or, bit-xor, bit-not, not-halves, bit-mod, three}
 
 -- by what a test says
 pub by-test : (t : Bool) (Q : ℕ → Type 0) → (t ≡ true → Q 1) → (t ≡ false → Q 0) → Q (bit t)
@@ -79,3 +79,20 @@ masked-carries w a b c ha hb hc =
     (bit-and _ _ i ∙ ap₂ bitAnd (bit-xor a b i) (bit-not w _ i (mod-lt _ (pow-pos w)) h ∙ ap (λ (n : ℕ). 1 - n) (bit-mod w (a + b + c) i h ∙ sum-bit a b c i hc)))
     ∙ majority (bitAt a i) (bitAt b i) (carryInto a b c i) (bitAt-lt a i) (bitAt-lt b i) (carry-lt a b c i)
     ∙ sym (carry-step a b c i hc) ∙ ap (carryInto a b c) (sym (add-one i)))
+
+-- of two halves it is the two halves' formulas
+pub masked-halves : (w a₁ a₀ b₁ b₀ s₁ s₀ : ℕ) → a₀ < 2 ^ w → b₀ < 2 ^ w → s₁ < 2 ^ w → s₀ < 2 ^ w
+    → masked (w + w) (a₁ * 2 ^ w + a₀) (b₁ * 2 ^ w + b₀) (s₁ * 2 ^ w + s₀) ≡ masked w a₁ b₁ s₁ * 2 ^ w + masked w a₀ b₀ s₀
+masked-halves w a₁ a₀ b₁ b₀ s₁ s₀ ha hb hs₁ hs₀ =
+    ap₂ bitOr (and-block w a₁ b₁ a₀ b₀ ha hb)
+    (ap₂ bitAnd (xor-block w a₁ b₁ a₀ b₀ ha hb) (not-halves w s₁ s₀ hs₁ hs₀)
+    ∙ and-block w (bitXor a₁ b₁) (2 ^ w - 1 - s₁) (bitXor a₀ b₀) (2 ^ w - 1 - s₀) (xor-lt w a₀ b₀ ha hb) (ones-sub-lt w s₀))
+    ∙ or-block w (bitAnd a₁ b₁) (bitAnd (bitXor a₁ b₁) (2 ^ w - 1 - s₁)) (bitAnd a₀ b₀) (bitAnd (bitXor a₀ b₀) (2 ^ w - 1 - s₀))
+    (and-lt w a₀ b₀ ha hb) (and-lt w _ _ (xor-lt w a₀ b₀ ha hb) (ones-sub-lt w s₀))
+
+-- ---- the sum as a program works it out: two wrapping steps, the carry-in being the top bit of its word
+
+pub sum-by-steps : (k a b cin m : ℕ) → cin < 2 ^ (1 + k) → m ≡ (a + b) % 2 ^ (1 + k) → (m + cin / 2 ^ k) % 2 ^ (1 + k) ≡ sumWord (1 + k) a b (bitAt cin k)
+unfolding sumWord
+sum-by-steps k a b cin m h e =
+    ap₂ (λ (m n : ℕ). (m + n) % 2 ^ (1 + k)) e (sym (top-bit k cin h)) ∙ mod-add-mod (a + b) (2 ^ (1 + k)) (bitAt cin k)

@@ -4,7 +4,7 @@ use mathlib.Core.Logic.{_↔_, ⊎-elim}
 use mathlib.Core.Bool.{Bool, true, false, not, cond, and-eq-true-iff}
 use mathlib.Core.List.{List, [], _∷_, _++_, reverse, reverse-cons}
 use Prim.Native.Nat.{ℕ, zero, suc, _+_, _-_, _*_, _/_, _%_, _^_, _≤_, _<_}
-use native.Mathlib.Nat.{zero-div, eq-or-lt-of-le, mod-lt, mod-eq-of-lt, mod-add-mod, add-mod-mod, add-mod-right, div-add-mod', le-of-lt, lt-of-le-of-lt, mul-le-mul-left, mul-lt-mul-of-pos-right}
+use native.Mathlib.Nat.{zero-div, div-div-eq-div-mul, eq-or-lt-of-le, mod-lt, mod-eq-of-lt, mod-add-mod, add-mod-mod, add-mod-right, div-add-mod', le-of-lt, lt-of-le-of-lt, mul-le-mul-left, mul-lt-mul-of-pos-right}
 use native.Mathlib.Omega.{arith}
 use borrow.Author.Tests.{leb-true, ltb-true, eqb-true, eqb-false, not-true, le-leb, lt-ltb, eq-eqb, ne-eqb}
 use lib.Arith.{digits-div, digits-mod}
@@ -14,8 +14,10 @@ use lib.ListN.{length, getD, length-reverse, List·getD-append}
 use lib.Pow.{pow-pos, pow-add, shr-lt, split}
 use lib.Seq.{getD-append-seam}
 use Rattle.common.specs.Bits.{bit, bitAt}
-use Rattle.common.proofs.Digits.{word-bit, bitAt-lt, digits, bit-and, bit-or, bit-xor}
-use Rattle.word.specs.Arithmetic.{carryInto, carryWord, differenceWord, borrowFrom, borrowWord, highWord, lowWord}
+use Rattle.common.specs.Halves.{halves}
+use Rattle.common.proofs.HalfLaws.{halves-high, halves-low}
+use Rattle.common.proofs.Digits.{word-bit, word-lt, bit-mod, bitAt-lt, digits, bit-and, bit-or, bit-xor}
+use Rattle.word.specs.Arithmetic.{sumWord, carryInto, carryWord, sumHalves, carryHalves, differenceWord, borrowFrom, borrowWord, highWord, lowWord}
 use Rattle.word.specs.Bitwise.{faxWord, selectWord, xorAll}
 use Rattle.word.specs.Hints.{quotientOf, remainderOf, zerosAbove}
 use Rattle.word.specs.Assertions.{eqFails, eqCondFails, zeroFails, nonZeroFails, falseFails, trueFails}
@@ -53,6 +55,34 @@ difference-rule w a b c ha hb hc =
     let e : d + b + c ≡ d + (b + c) = omega arith in
     let f : a + 2 ^ w - (b + c) + (b + c) ≡ a + 2 ^ w = omega arith in
     ap (λ (n : ℕ). n % 2 ^ w) e ∙ mod-add-mod (a + 2 ^ w - (b + c)) (2 ^ w) (b + c) ∙ ap (λ (n : ℕ). n % 2 ^ w) f ∙ add-mod-right a (2 ^ w) ∙ mod-eq-of-lt ha
+
+-- ---- add by halves
+
+-- a half's carry-in is bit 63 or bit 31
+pub carry-ins : (cin : ℕ) → (bitAt (cin / 2 ^ 32) 31 ≡ bitAt cin 63) × (bitAt (cin % 2 ^ 32) 31 ≡ bitAt cin 31)
+unfolding bitAt
+carry-ins cin = (ap (λ (n : ℕ). n % 2) (div-div-eq-div-mul cin (2 ^ 32) (2 ^ 31)), bit-mod 32 cin 31 (lit< tt))
+
+-- g's answer has f's of the high halves with bit 63 of cin in its high half, and f's of the low halves with bit 31 in its low half
+abbrev pub ByHalves : (ℕ → ℕ → ℕ → ℕ) → (ℕ → ℕ → ℕ → ℕ) → Type 0
+ByHalves g f = (a b cin : ℕ) → (g a b cin / 2 ^ 32 ≡ f (a / 2 ^ 32) (b / 2 ^ 32) (bitAt cin 63)) × (g a b cin % 2 ^ 32 ≡ f (a % 2 ^ 32) (b % 2 ^ 32) (bitAt cin 31))
+
+by-halves : (f : ℕ → ℕ → ℕ → ℕ) → ((a b c : ℕ) → f a b c < 2 ^ 32) → ByHalves (λ a b cin. halves 32 (λ half. f (half a) (half b) (bitAt (half cin) 31))) f
+by-halves f h a b cin =
+    let l = h (a % 2 ^ 32) (b % 2 ^ 32) (bitAt (cin % 2 ^ 32) 31) in (
+      halves-high 32 (λ half. f (half a) (half b) (bitAt (half cin) 31)) l ∙ ap (f (a / 2 ^ 32) (b / 2 ^ 32)) (carry-ins cin .0),
+      halves-low 32 (λ half. f (half a) (half b) (bitAt (half cin) 31)) l ∙ ap (f (a % 2 ^ 32) (b % 2 ^ 32)) (carry-ins cin .1),
+    )
+
+-- each half is added on its own
+pub sum-halves : ByHalves sumHalves (sumWord 32)
+unfolding sumHalves sumWord
+sum-halves = by-halves (sumWord 32) (λ a b c. mod-lt (a + b + c) (pow-pos 32))
+
+-- and has the carries out of its own bits: `carry-rule` at the width 32
+pub carry-halves : ByHalves carryHalves (carryWord 32)
+unfolding carryHalves carryWord
+carry-halves = by-halves (carryWord 32) (λ a b c. word-lt 32 (λ j. carry-lt a b c (j + 1)))
 
 -- ---- multiply
 

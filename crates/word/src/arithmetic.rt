@@ -1,7 +1,10 @@
-// Add, subtract and multiply. A carry-in or borrow-in is passed as its word, of which bit 63 counts.
+// Add, subtract and multiply. A carry-in or borrow-in is passed as its word, of which the top bit counts.
+use common::halves::high;
+use common::halves::join;
+use common::halves::low;
 ghost use mathlib.Core.Path.{_≡_};
 ghost use Rattle.common.specs.Bits.{bitAt};
-ghost use Rattle.word.specs.Arithmetic.{sumWord, carryWord, differenceWord, borrowWord, highWord, lowWord};
+ghost use Rattle.word.specs.Arithmetic.{sumWord, carryWord, sumHalves, carryHalves, differenceWord, borrowWord, highWord, lowWord};
 
 // a + b + c modulo 2^64, where c is bit 63 of cin.
 pub fn sum(a: u64, b: u64, cin: u64) -> u64
@@ -23,6 +26,30 @@ pub fn iadd_carry(a: u64, b: u64) -> u64
     ensures { λ r. ⌜ r ≡ carryWord 64 a b 0 ⌝ }
 {
     carries(a, b, 0)
+}
+
+// a + b + c modulo 2^32, where c is bit 31 of cin.
+fn half_sum(a: u32, b: u32, cin: u32) -> u32
+    ensures { λ r. ⌜ r ≡ sumWord 32 a b (bitAt cin 31) ⌝ }
+{
+    std::num::wrapping_add_u32(std::num::wrapping_add_u32(a, b), cin >> 31)
+}
+
+// Each half of a and b added on its own, with bits 31 and 63 of cin.
+pub fn sum32(a: u64, b: u64, cin: u64) -> u64
+    ensures { λ r. ⌜ r ≡ sumHalves a b cin ⌝ }
+{
+    join(
+        half_sum(high(a), high(b), high(cin)),
+        half_sum(low(a), low(b), low(cin)),
+    )
+}
+
+// The carry out of each bit of each half: what `carries` says of a bit holds of a bit of a half.
+pub fn carries32(a: u64, b: u64, cin: u64) -> u64
+    ensures { λ r. ⌜ r ≡ carryHalves a b cin ⌝ }
+{
+    (a & b) | ((a ^ b) & !sum32(a, b, cin))
 }
 
 // a - b - c modulo 2^64, where c is bit 63 of bin.

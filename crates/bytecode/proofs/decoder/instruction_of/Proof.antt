@@ -7,9 +7,9 @@ use Rattle.bytecode.proofs.Tables.{settle, barred}
 use Rattle.bytecode.proofs.decoder.instruction_of.Statement.{statement}
 use Rattle.bytecode.proofs.decoder.instruction_of.Tie as tie
 
-returns-18 : tie.Need-returns-18
+returns-20 : tie.Need-returns-20
 unfolding inst readAs
-returns-18 c = λ h.
+returns-20 c = λ h.
     let o : ℕ = c .before .before .before .before .args .op in
     settle o 0x80
     (λ e. rw (e, c .hint .ensures, c .before .before .first-fields .ensures))
@@ -40,4 +40,6 @@ instruction-of-spec =
     (λ c. unfold inst readAs in λ h. rw (c .match .keys15, c .before .first-fields .ensures))
     (λ c. unfold inst readAs in λ h. rw (c .match .keys16, c .before .first-fields .ensures))
     (λ c. unfold inst readAs in λ h. rw (c .match .keys17, c .before .first-fields .ensures))
-    returns-18)
+    (λ c. unfold inst readAs in λ h. rw (c .match .keys18, c .before .first-fields .ensures))
+    (λ c. unfold inst readAs in λ h. rw (c .match .keys19, c .before .first-fields .ensures))
+    returns-20)

@@ -1,20 +1,14 @@
 -- `word::arithmetic::sum` meets its contract. Assumes nothing.
 use borrow.Author.Needs.{needs}
-use mathlib.Core.Path.{sym, ap₂, _∙_}
-use Prim.Native.Nat.{ℕ, _+_, _%_, _^_}
-use native.Mathlib.Nat.{mod-add-mod}
-use Rattle.common.specs.Bits.{bitAt}
-use Rattle.word.specs.Arithmetic.{sumWord}
-use Rattle.common.proofs.Digits.{top-bit}
+use mathlib.Core.Path.{_∙_}
+use Rattle.word.proofs.Adder.{sum-by-steps}
 use Rattle.word.proofs.arithmetic.sum.Statement.{statement}
 use Rattle.word.proofs.arithmetic.sum.Tie as tie
 
 returns : tie.Need-returns
-unfolding sumWord
 returns c =
-    c .wrapping-add-u642 .ensures
-    ∙ ap₂ (λ (m n : ℕ). (m + n) % 2 ^ 64) (c .before .wrapping-add-u64 .ensures) (sym (top-bit 63 (c .before .before .args .cin) (c .before .before .fits .cin .fits)))
-    ∙ mod-add-mod (c .before .before .args .a + c .before .before .args .b) (2 ^ 64) (bitAt (c .before .before .args .cin) 63)
+    let s = c .before .before in
+    c .wrapping-add-u642 .ensures ∙ sum-by-steps 63 (s .args .a) (s .args .b) (s .args .cin) (c .before .wrapping-add-u64 .result) (s .fits .cin .fits) (c .before .wrapping-add-u64 .ensures)
 
 pub sum-spec : {M : Type 1} → statement M
 sum-spec = tie.close (tie.spec (λ c κs. search needs) (λ c κs. search needs) returns)
