@@ -51,6 +51,20 @@ impl Rust for Beside {
         [high.as_u64(), low.as_u64()]
     }
 
+    fn add_halves(&self, a: u64, b: u64, carries_in: u64) -> [u64; 2] {
+        let (sum, carries) = Word(a).iadd32_cin_cout(Word(b), Word(carries_in));
+        [sum.as_u64(), carries.as_u64()]
+    }
+
+    fn add_bare_halves(&self, a: u64, b: u64) -> [u64; 2] {
+        let (sum, carries) = Word(a).iadd_cout_32(Word(b));
+        [sum.as_u64(), carries.as_u64()]
+    }
+
+    fn has_variant(&self, number: u8) -> bool {
+        ShiftVariant::from_u8(number).is_some()
+    }
+
     fn shift(&self, variant: u8, amount: u8, word: u64) -> u64 {
         let variant = ShiftVariant::from_u8(variant).expect("a variant from 0 to 7");
         variant.apply(Word(word), amount.into()).as_u64()
@@ -150,6 +164,10 @@ fn emit(builder: &mut BytecodeBuilder, call: &Call) {
             builder.emit_isub_bin_bout(diff, bout, a, b, bin);
         }
         Call::Imul([high, low, a, b]) => builder.emit_imul(high, low, a, b),
+        Call::Iadd32CinCout([sum, cout, a, b, cin]) => {
+            builder.emit_iadd32_cin_cout(sum, cout, a, b, cin);
+        }
+        Call::Iadd32Cout([sum, cout, a, b]) => builder.emit_iadd32_cout(sum, cout, a, b),
         Call::AssertEq([a, b, spec]) => builder.emit_assert_eq(a, b, path(spec)),
         Call::AssertEqCond([cond, a, b, spec]) => {
             builder.emit_assert_eq_cond(cond, a, b, path(spec));

@@ -40,6 +40,15 @@ pub trait Rust: Sync {
     /// word.rs: the high and the low word of the product.
     fn multiply(&self, a: u64, b: u64) -> [u64; 2];
 
+    /// word.rs: the sum of each half and its carries, with the carries-in in bits 31 and 63 of a word.
+    fn add_halves(&self, a: u64, b: u64, carries_in: u64) -> [u64; 2];
+
+    /// word.rs: the same by the function that takes no carries-in.
+    fn add_bare_halves(&self, a: u64, b: u64) -> [u64; 2];
+
+    /// shift.rs: whether a variant has that number.
+    fn has_variant(&self, number: u8) -> bool;
+
     /// shift.rs: the variant of that number, applied.
     fn shift(&self, variant: u8, amount: u8, word: u64) -> u64;
 
@@ -89,6 +98,8 @@ pub enum Call {
     IaddCarry([u32; 3]),
     IsubBinBout([u32; 5]),
     Imul([u32; 4]),
+    Iadd32CinCout([u32; 5]),
+    Iadd32Cout([u32; 4]),
     AssertEq([u32; 3]),
     AssertEqCond([u32; 4]),
     AssertZero([u32; 2]),

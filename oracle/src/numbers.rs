@@ -1,7 +1,7 @@
 //! Numbers by a seed, and the words worth trying.
 
 /// Words at the limits: of a word, of its sign, of its halves.
-pub const LIMITS: [u64; 10] = [
+pub const LIMITS: [u64; 11] = [
     0,
     1,
     u64::MAX,
@@ -10,6 +10,7 @@ pub const LIMITS: [u64; 10] = [
     (1 << 63) - 1,
     1 << 31,
     (1 << 32) - 1,
+    1 << 32,
     0xffff_ffff_0000_0000,
     0x8000_0000_8000_0000,
 ];

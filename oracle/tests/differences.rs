@@ -56,13 +56,18 @@ fn a_hint_over_its_own_inputs() {
     assert_eq!(column, [9, 4]);
 }
 
-/// Refusals 4 and 6: the Rust has no check, and stops at such a program when it runs it.
+/// Refusals 4, 6 and 7: the Rust has no check, and stops at such a program when it runs it.
 #[test]
 #[cfg_attr(not(given), ignore = "no given Rust beside the repository")]
 fn programs_that_stop_the_rust() {
     let rust = rust();
-    for code in [&[0x04][..], &[0x62, 0, 0, 0, 0, 0, 0, 0]] {
-        let run = || rust.run(code, 1, 0, 1, &mut [0]);
+    let programs = [
+        &[0x04][..],
+        &[0x62, 0, 0, 0, 0, 0, 0, 0],
+        &[0x10, 0, 0, 0, 0, 1, 0, 0, 0, 8, 0],
+    ];
+    for code in programs {
+        let run = || rust.run(code, 1, 0, 1, &mut [0, 0]);
         assert!(std::panic::catch_unwind(std::panic::AssertUnwindSafe(run)).is_err());
     }
 }

@@ -17,6 +17,22 @@ fn sums_and_differences() {
     assert_eq!(rust.subtract(0, 1, 0), [ALL_ONES, ALL_ONES]);
 }
 
+/// Document 02, E1: no carry goes from the low half into the high one, and the carry in of a half is the
+/// top bit of the same half.
+#[test]
+#[cfg_attr(not(given), ignore = "no given Rust beside the repository")]
+fn sums_of_halves() {
+    let rust = rust();
+    let low_ones = 0xffff_ffff;
+    assert_eq!(rust.add_bare_halves(low_ones, 1), [0, low_ones]);
+    assert_eq!(rust.add_bare_halves(ALL_ONES, 1), [!low_ones, low_ones]);
+    assert_eq!(rust.add_halves(ALL_ONES, 0, 1 << 31), [!low_ones, low_ones]);
+    assert_eq!(rust.add_halves(ALL_ONES, 0, 1 << 63), [low_ones, !low_ones]);
+    let tops = 1 << 31 | 1 << 63;
+    assert_eq!(rust.add_halves(ALL_ONES, 0, tops), [0, ALL_ONES]);
+    assert_eq!(rust.add_halves(ALL_ONES, 0, !tops), [ALL_ONES, 0]);
+}
+
 #[test]
 #[cfg_attr(not(given), ignore = "no given Rust beside the repository")]
 fn products() {
@@ -45,6 +61,18 @@ fn emitted_bytes() {
     assert_eq!(
         rust.emit(&[Call::BxorMulti(7, vec![])]),
         (multi.to_vec(), 1)
+    );
+    let carried = [
+        0x40, 4, 0, 0, 0, 3, 0, 0, 0, 0, 0, 0, 0, 1, 0, 0, 0, 2, 0, 0, 0,
+    ];
+    assert_eq!(
+        rust.emit(&[Call::Iadd32CinCout([4, 3, 0, 1, 2])]),
+        (carried.to_vec(), 1)
+    );
+    let bare = [0x46, 3, 0, 0, 0, 2, 0, 0, 0, 0, 0, 0, 0, 1, 0, 0, 0];
+    assert_eq!(
+        rust.emit(&[Call::Iadd32Cout([3, 2, 0, 1])]),
+        (bare.to_vec(), 1)
     );
     assert_eq!(rust.emit(&[]), (vec![], 0));
 }

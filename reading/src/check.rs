@@ -117,10 +117,18 @@ mod tests {
 
     #[test]
     fn two_equal_destinations_overlap_and_two_equal_sources_do_not() {
-        let product = |high, low, a, b| Instruction::plain(Opcode::Imul, &[high, low], &[a, b]).encode();
-        assert!(check(&product(0, 1, 2, 2), 3).is_ok());
-        assert_eq!(refused(&product(0, 0, 1, 2), 3), (10, 0));
-        assert_eq!(refused(&product(0, 1, 2, 1), 3), (10, 0));
+        for opcode in [Opcode::Imul, Opcode::Iadd32Cout] {
+            let code = |high, low, a, b| Instruction::plain(opcode, &[high, low], &[a, b]).encode();
+            assert!(check(&code(0, 1, 2, 2), 3).is_ok());
+            assert_eq!(refused(&code(0, 0, 1, 2), 3), (10, 0));
+            assert_eq!(refused(&code(0, 1, 2, 1), 3), (10, 0));
+        }
+        let sums =
+            |sum, carries, a, b, c| Instruction::plain(Opcode::Iadd32CinCout, &[sum, carries], &[a, b, c]).encode();
+        assert!(check(&sums(0, 1, 2, 2, 2), 3).is_ok());
+        assert_eq!(refused(&sums(0, 0, 2, 2, 2), 3), (10, 0));
+        assert_eq!(refused(&sums(0, 1, 2, 2, 1), 3), (10, 0));
+        assert_eq!(refused(&sums(0, 1, 2, 2, 3), 3), (9, 0));
     }
 
     #[test]

@@ -1,7 +1,7 @@
 //! One column, one instruction after the other: what a program means, with no batch in it.
 
 use crate::layout::{Instruction, Numbers, Opcode};
-use crate::words::{add, divide, leading_zeros, multiply, shift, subtract, top_bit};
+use crate::words::{add, add_halves, divide, leading_zeros, multiply, shift, subtract, top_bit, top_bits};
 
 /// A violation, as its three words.
 pub type Record = [u64; 3];
@@ -68,6 +68,14 @@ fn apply(instruction: &Instruction, read: &[u64]) -> Vec<u64> {
             let (high, low) = multiply(a, b);
             vec![high, low]
         }
+        (Opcode::Iadd32CinCout, &[a, b, c], _) => {
+            let (sums, carries) = add_halves(a, b, top_bits(c));
+            vec![sums, carries]
+        }
+        (Opcode::Iadd32Cout, &[a, b], _) => {
+            let (sums, carries) = add_halves(a, b, [false; 2]);
+            vec![sums, carries]
+        }
         (Opcode::Hint, words, Numbers::Hint { id, .. }) => match (id, words) {
             (1, &[a, b]) => {
                 let (quotient, remainder) = divide(a, b);
@@ -104,6 +112,12 @@ mod tests {
         assert_eq!(run(plain(Opcode::IaddCarry, &[0], &[1, 2]), vec![0, 3, 1])[0], 3);
         assert_eq!(run(plain(Opcode::IsubBinBout, &[0, 1], &[2, 3, 4]), vec![0, 0, 5, 3, TOP])[..2], [1, 3]);
         assert_eq!(run(plain(Opcode::Imul, &[0, 1], &[2, 3]), vec![9, 9, 1 << 40, 1 << 40])[..2], [1 << 16, 0]);
+        let halves = |high: u64, low: u64| (high << 32) + low;
+        let [a, b, tops] = [halves(3, u32::MAX.into()), halves(1, 0), halves(1 << 31, 1 << 31)];
+        let carried = plain(Opcode::Iadd32CinCout, &[0, 1], &[2, 3, 4]);
+        assert_eq!(run(carried, vec![9, 9, a, b, tops])[..2], [halves(5, 0), halves(3, u32::MAX.into())]);
+        let bare = plain(Opcode::Iadd32Cout, &[0, 1], &[2, 3]);
+        assert_eq!(run(bare, vec![9, 9, a, b])[..2], [halves(4, u32::MAX.into()), halves(3, 0)]);
         assert_eq!(run(Instruction::hint(1, &[], &[0, 1], &[2, 3]), vec![17, 5, 0, 0])[2..], [3, 2]);
         assert_eq!(run(Instruction::hint(2, &[], &[0], &[1]), vec![1, 0])[1], 63);
         assert_eq!(run(Instruction::hint(3, &[3], &[0, 1, 2], &[3, 4, 5]), vec![1, 2, 3, 0, 0, 0])[3..], [3, 2, 1]);

@@ -17,6 +17,8 @@ pub enum Opcode {
     IaddCarry = 0x22,
     IsubBinBout = 0x23,
     Imul = 0x30,
+    Iadd32CinCout = 0x40,
+    Iadd32Cout = 0x46,
     AssertEq = 0x60,
     AssertEqCond = 0x61,
     AssertZero = 0x62,
@@ -27,7 +29,7 @@ pub enum Opcode {
 }
 
 impl Opcode {
-    pub const ALL: [Opcode; 18] = [
+    pub const ALL: [Opcode; 20] = [
         Opcode::Band,
         Opcode::Bor,
         Opcode::Bxor,
@@ -39,6 +41,8 @@ impl Opcode {
         Opcode::IaddCarry,
         Opcode::IsubBinBout,
         Opcode::Imul,
+        Opcode::Iadd32CinCout,
+        Opcode::Iadd32Cout,
         Opcode::AssertEq,
         Opcode::AssertEqCond,
         Opcode::AssertZero,
@@ -62,8 +66,8 @@ impl Opcode {
             Opcode::Band | Opcode::Bor | Opcode::Bxor | Opcode::IaddCarry => (1, 2),
             Opcode::Select | Opcode::Fax => (1, 3),
             Opcode::Shift => (1, 1),
-            Opcode::IaddCinCout | Opcode::IsubBinBout => (2, 3),
-            Opcode::Imul => (2, 2),
+            Opcode::IaddCinCout | Opcode::IsubBinBout | Opcode::Iadd32CinCout => (2, 3),
+            Opcode::Imul | Opcode::Iadd32Cout => (2, 2),
             Opcode::AssertEq => (0, 2),
             Opcode::AssertEqCond => (0, 3),
             Opcode::AssertZero | Opcode::AssertNonZero | Opcode::AssertFalse | Opcode::AssertTrue => (0, 1),
@@ -76,8 +80,8 @@ impl Opcode {
     }
 }
 
-/// "NotCarried: 0x31, 0x40, 0x46".
-pub const NOT_CARRIED: [u8; 3] = [0x31, 0x40, 0x46];
+/// "5 NotCarried is left to 0x31 alone" (document 02, E1).
+pub const NOT_CARRIED: [u8; 1] = [0x31];
 
 /// What stands in an instruction beside its opcode and its registers.
 #[derive(Clone, Debug, PartialEq, Eq, Hash)]
@@ -244,7 +248,8 @@ fn read(opcode: Opcode, fields: &mut Fields) -> Option<Instruction> {
 mod tests {
     use super::*;
 
-    /// "Total lengths: Band, Bor, Bxor, IaddCarry 13; Select, Fax 17; Shift 11 ..", by counts of registers and numbers.
+    /// "Total lengths: Band, Bor, Bxor, IaddCarry 13; Select, Fax 17; Shift 11 ..", by counts of registers and numbers; and
+    /// "Iadd32CinCout (0x40, 21 bytes) and Iadd32Cout (0x46, 17 bytes)".
     #[test]
     fn total_lengths_are_the_documents() {
         let three = [0, 1, 2];
@@ -259,6 +264,8 @@ mod tests {
             (Opcode::IaddCinCout, 21),
             (Opcode::IsubBinBout, 21),
             (Opcode::Imul, 17),
+            (Opcode::Iadd32CinCout, 21),
+            (Opcode::Iadd32Cout, 17),
             (Opcode::AssertEq, 13),
             (Opcode::AssertEqCond, 17),
             (Opcode::AssertZero, 9),
@@ -305,6 +312,18 @@ mod tests {
             many.extend_from_slice(&count.to_le_bytes());
             assert_eq!(decode(&many), Err(Refused::bare(Name::Truncated)), "{count}");
         }
+    }
+
+    /// Every opcode byte: the source has 21 opcodes, and one of them is not carried.
+    #[test]
+    fn every_byte_is_carried_or_not_or_unknown() {
+        let zeros = |byte: u8| [vec![byte], vec![0; 100]].concat();
+        let refused = |name: Name| (0..=255).filter(|&byte| decode(&zeros(byte)) == Err(Refused::bare(name))).collect();
+        let not_carried: Vec<u8> = refused(Name::NotCarried);
+        assert_eq!(not_carried, [0x31]);
+        let unknown: Vec<u8> = refused(Name::UnknownOpcode);
+        assert_eq!(unknown.len(), 256 - 21);
+        assert!(!unknown.contains(&0x40) && !unknown.contains(&0x46));
     }
 
     #[test]

@@ -1,4 +1,4 @@
-//! "Word rules": 64-bit words, ordinary binary arithmetic.
+//! "Word rules": 64-bit words, ordinary binary arithmetic; and the sums of halves that document 02 adds (E1).
 
 /// "Select takes t exactly when bit 63 of the condition is 1", and the carry-in is bit 63 of its word.
 pub fn top_bit(word: u64) -> bool {
@@ -26,6 +26,28 @@ pub fn add(a: u64, b: u64, carry_in: bool) -> (u64, u64) {
     let (a, b, c) = (u128::from(a), u128::from(b), u128::from(carry_in));
     let carries = word_of_bits(|i| low_bits(a, i + 1) + low_bits(b, i + 1) + c >= 1 << (i + 1));
     (low_word(a + b + c), carries)
+}
+
+/// "Each half is added on its own; the carry word holds, for each bit of each half, the carry out of that bit": the sums
+/// and the carries, bit by bit as on paper. A half starts with its carry-in, the low half's first.
+pub fn add_halves(a: u64, b: u64, carries_in: [bool; 2]) -> (u64, u64) {
+    let bit = |word: u64, i: u32| word >> i & 1;
+    let (mut sums, mut carries) = (0, 0);
+    for (lowest, carry_in) in [0, 32].into_iter().zip(carries_in) {
+        let mut carry = u64::from(carry_in);
+        for i in lowest..lowest + 32 {
+            let ones = bit(a, i) + bit(b, i) + carry;
+            carry = ones / 2;
+            sums |= ones % 2 << i;
+            carries |= carry << i;
+        }
+    }
+    (sums, carries)
+}
+
+/// The carry-in is "the top bit of the same half, bit 31 and bit 63".
+pub fn top_bits(word: u64) -> [bool; 2] {
+    [31, 63].map(|i| word >> i & 1 == 1)
 }
 
 /// "Difference is a - b - c modulo 2^64", and the word of borrows: "Borrow bit i is 1 exactly when a mod 2^(i+1) is less
@@ -138,6 +160,29 @@ mod tests {
                 let (whole, second) = half.overflowing_sub(u64::from(c));
                 assert_eq!((difference, top_bit(borrows)), (whole, first || second));
             }
+        }
+    }
+
+    #[test]
+    fn halves_are_sums_of_their_own() {
+        // document 01's sums, once in each half and then in both
+        let low = u64::from(u32::MAX);
+        for (place, ones) in [(1, low), (1 << 32, ONES - low), ((1 << 32) + 1, ONES)] {
+            assert_eq!(add_halves(3 * place, place, [false; 2]), (4 * place, 3 * place));
+            assert_eq!(add_halves(ones, place, [false; 2]), (0, ones));
+        }
+        // the low half's last carry stays out of the high half
+        assert_eq!(add_halves(low, low, [true, false]), (low, low));
+        assert_eq!(add_halves(ONES, 0, [true, false]), (ONES - low, low));
+        assert_eq!(add_halves(ONES, 0, [false, true]), (low, ONES - low));
+        assert_eq!(add_halves(ONES, 0, [true; 2]), (0, ONES));
+    }
+
+    #[test]
+    fn the_carry_in_of_a_half_is_its_top_bit() {
+        for i in 0..64 {
+            assert_eq!(top_bits(1 << i), [i == 31, i == 63]);
+            assert_eq!(top_bits(ONES - (1 << i)), [i != 31, i != 63]);
         }
     }
 

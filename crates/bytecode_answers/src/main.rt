@@ -1,6 +1,6 @@
 // The given Rust's bytecode, replayed: the same calls of the emitters give the same bytes, lengths and
-// counts; its bytes decode to the calls that they came from; and where document 01 accepts its
-// program, so does the check.
+// counts; its bytes decode to the calls that they came from; where document 01 accepts its program, so
+// does the check; and a shift of a variant that it does not have is refused.
 //
 // The list is made by oracle/ and not by hand; oracle/src/lists/bytecode.rs says what its lines mean, and
 // oracle/README.md how to make it anew.
@@ -28,6 +28,8 @@ const ACCEPTED: u32 = 2;
 const EMITTED: u32 = 4;
 
 const DECODED: u32 = 6;
+
+const REFUSED: u32 = 8;
 
 fn put_bytes(line: Numbers, bytes: &mut [u8]) {
     let at = wide(line.a);
@@ -98,6 +100,12 @@ fn emit_multi(builder: BytecodeBuilder, mine: &mut [u8], line: Numbers, list: &[
     builder.emit_bxor_multi(mine, line.a, &list[0..n])
 }
 
+fn emit_shift(builder: BytecodeBuilder, mine: &mut [u8], line: Numbers) -> Emitted {
+    let variant = (line.c % 256) as u8;
+    let amount = (line.d % 256) as u8;
+    builder.emit_shift(mine, line.a, line.b, variant, amount)
+}
+
 fn emit_assertion(builder: BytecodeBuilder, mine: &mut [u8], line: Numbers) -> Emitted {
     let code = line.code;
     match code {
@@ -119,15 +127,13 @@ fn emit_word_rule(builder: BytecodeBuilder, mine: &mut [u8], line: Numbers) -> E
         0x03 => builder.emit_bxor(mine, line.a, line.b, line.c),
         0x05 => builder.emit_select(mine, line.a, line.b, line.c, line.d),
         0x07 => builder.emit_fax(mine, line.a, line.b, line.c, line.d),
-        0x10 => {
-            let variant = (line.c % 256) as u8;
-            let amount = (line.d % 256) as u8;
-            builder.emit_shift(mine, line.a, line.b, variant, amount)
-        }
+        0x10 => emit_shift(builder, mine, line),
         0x21 => builder.emit_iadd_cin_cout(mine, line.a, line.b, line.c, line.d, line.e),
         0x22 => builder.emit_iadd_carry(mine, line.a, line.b, line.c),
         0x23 => builder.emit_isub_bin_bout(mine, line.a, line.b, line.c, line.d, line.e),
         0x30 => builder.emit_imul(mine, line.a, line.b, line.c, line.d),
+        0x40 => builder.emit_iadd32_cin_cout(mine, line.a, line.b, line.c, line.d, line.e),
+        0x46 => builder.emit_iadd32_cout(mine, line.a, line.b, line.c, line.d),
         _ => emit_assertion(builder, mine, line),
     }
 }
@@ -161,6 +167,8 @@ fn is_instruction(line: Numbers, instruction: Instruction) -> bool {
         Instruction::IaddCarry(a, b, c) => is(line, 0x22, a, b, c, 0, 0),
         Instruction::IsubBinBout(a, b, c, d, e) => is(line, 0x23, a, b, c, d, e),
         Instruction::Imul(a, b, c, d) => is(line, 0x30, a, b, c, d, 0),
+        Instruction::Iadd32CinCout(a, b, c, d, e) => is(line, 0x40, a, b, c, d, e),
+        Instruction::Iadd32Cout(a, b, c, d) => is(line, 0x46, a, b, c, d, 0),
         Instruction::AssertEq(a, b, c) => is(line, 0x60, a, b, c, 0, 0),
         Instruction::AssertEqCond(a, b, c, d) => is(line, 0x61, a, b, c, d, 0),
         Instruction::AssertZero(a, b) => is(line, 0x62, a, b, 0, 0, 0),
@@ -209,6 +217,14 @@ fn call(
     next
 }
 
+// A shift of a variant that the Rust does not have: 7, and the builder stays where it was.
+fn is_refused(builder: BytecodeBuilder, line: Numbers, mine: &mut [u8]) -> bool {
+    let Emitted::Refused(why, after) = emit_shift(builder, mine, line) else {
+        return false;
+    };
+    refusal::number(why) == 7 && after.len == builder.len && after.count == builder.count
+}
+
 fn is_accepted(given: &[u8], length: usize, rows: usize) -> bool {
     if given.len() < length {
         return false;
@@ -253,6 +269,10 @@ fn turn(
             put_bytes(line, given);
             Step::Next(builder)
         }
+        0xfd => {
+            answers::note(tally, REFUSED, is_refused(builder, line, mine));
+            Step::Next(builder)
+        }
         0xfe => {
             end(builder, line, given, tally);
             Step::Next(BytecodeBuilder::new())
@@ -279,13 +299,14 @@ fn results(tally: &[u64]) {
     answers::tell(b"accepted", tally, ACCEPTED);
     answers::tell(b"emitted", tally, EMITTED);
     answers::tell(b"decoded", tally, DECODED);
+    answers::tell(b"refused", tally, REFUSED);
 }
 
 fn main() {
     let mut given = [0u8; 8192];
     let mut mine = [0u8; 8192];
     let mut list = [0u32; 128];
-    let mut tally = [0u64; 8];
+    let mut tally = [0u64; 10];
     replay(&mut given, &mut mine, &mut list, &mut tally);
     results(&tally);
 }

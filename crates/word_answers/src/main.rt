@@ -41,6 +41,16 @@ fn agrees(line: Words) -> bool {
             let product = word::arithmetic::multiply(a, b);
             both(product.high, product.low, line)
         }
+        0x40 => both(
+            word::arithmetic::sum32(a, b, c),
+            word::arithmetic::carries32(a, b, c),
+            line,
+        ),
+        0x46 => both(
+            word::arithmetic::sum32(a, b, 0),
+            word::arithmetic::carries32(a, b, 0),
+            line,
+        ),
         0x60 => is(word::assertions::eq_fails(a, b), want),
         0x61 => is(word::assertions::eq_cond_fails(a, b, c), want),
         0x62 => is(word::assertions::zero_fails(a), want),
@@ -141,6 +151,8 @@ fn results(tally: &[u64]) {
     answers::tell(b"IaddCinCout", tally, place(0x21));
     answers::tell(b"IsubBinBout", tally, place(0x23));
     answers::tell(b"Imul", tally, place(0x30));
+    answers::tell(b"Iadd32CinCout", tally, place(0x40));
+    answers::tell(b"Iadd32Cout", tally, place(0x46));
     answers::tell(b"AssertEq", tally, place(0x60));
     answers::tell(b"AssertEqCond", tally, place(0x61));
     answers::tell(b"AssertZero", tally, place(0x62));

@@ -9,6 +9,9 @@
 //!   For `80`: id, numbers of dimensions, inputs, outputs. Their lists come before, one after the other:
 //! - `00`: a place in the list of numbers, and four numbers.
 //!
+//! A shift whose variant shift.rs does not have can be no call of the Rust; document 01 refuses it (7):
+//! - `fd`: its arguments, as above. The program goes on as if it were not there.
+//!
 //! Then its end:
 //! - `fe`: length, count; a row count; 1 where document 01 accepts the program over so many rows, else 0.
 
@@ -17,6 +20,9 @@ use crate::{Call, Rust, numbers::Numbers};
 
 /// Numbers of 32 bits at the limits.
 const LIMITS: [u32; 6] = [0, 1, 255, 1 << 31, u32::MAX - 1, u32::MAX];
+
+/// Amounts of a shift, within a width and over it: an emitter judges none.
+const AMOUNTS: [u8; 7] = [0, 1, 31, 32, 63, 64, 255];
 
 pub fn list(rust: &dyn Rust, seed: u64) -> List {
     let mut numbers = Numbers::new(seed);
@@ -41,8 +47,7 @@ pub fn list(rust: &dyn Rust, seed: u64) -> List {
                 values[place] = limit;
                 let path = if opcode >= 0x60 { values.pop() } else { None };
                 let variant = numbers.below(8) as u8;
-                // An emitter judges no amount.
-                let amount = numbers.pick(&[0, 31, 32, 63, 64, 255]);
+                let amount = numbers.pick(&AMOUNTS);
                 calls.push(programs::with_fields(
                     opcode,
                     &values,
@@ -54,6 +59,22 @@ pub fn list(rust: &dyn Rust, seed: u64) -> List {
         }
         program(&calls, None);
     }
+
+    // Every byte as a shift's variant: each of the Rust's, by every amount, and behind it some others.
+    let mut calls = Vec::new();
+    for variant in 0..8u8 {
+        let mut shift = |variant, amount| {
+            let registers = [numbers.word() as u32, numbers.word() as u32];
+            calls.push(Call::Shift(registers, variant, amount));
+        };
+        for amount in AMOUNTS {
+            shift(variant, amount);
+        }
+        for other in (variant + 8..=255).step_by(8) {
+            shift(other, 1);
+        }
+    }
+    program(&calls, None);
 
     // BxorMulti with no sources up to many.
     let any = |numbers: &mut Numbers, n: u64| -> Vec<u32> {
@@ -111,7 +132,13 @@ pub fn list(rust: &dyn Rust, seed: u64) -> List {
 
 /// A program: its bytes, its calls, its end.
 fn put(lines: &mut Lines, rust: &dyn Rust, calls: &[Call], accepted: Option<u32>) {
-    let (code, count) = rust.emit(calls);
+    let is_the_rusts = |call: &Call| match *call {
+        Call::Shift(_, variant, _) => rust.has_variant(variant),
+        _ => true,
+    };
+    let mut emitted = calls.to_vec();
+    emitted.retain(is_the_rusts);
+    let (code, count) = rust.emit(&emitted);
     if let Some(rows) = accepted {
         // What document 01 accepts, the Rust runs.
         let mut column = vec![0; rows as usize];
@@ -126,9 +153,13 @@ fn put(lines: &mut Lines, rust: &dyn Rust, calls: &[Call], accepted: Option<u32>
     }
     for call in calls {
         let (opcode, fields) = put_call(lines, call);
-        // One line, two cases: it is emitted, and it is decoded.
-        lines.case("emitted", opcode, fields);
-        lines.count("decoded");
+        if is_the_rusts(call) {
+            // One line, two cases: it is emitted, and it is decoded.
+            lines.case("emitted", opcode, fields);
+            lines.count("decoded");
+        } else {
+            lines.case("refused", 0xfd, fields);
+        }
     }
     let (rows, is_accepted) = accepted.map_or((0, 0), |rows| (rows.into(), 1));
     lines.case(
@@ -173,6 +204,8 @@ fn put_call(lines: &mut Lines, call: &Call) -> (u8, [u64; 5]) {
         Call::IaddCarry(given) => fields(0x22, given),
         Call::IsubBinBout(given) => fields(0x23, given),
         Call::Imul(given) => fields(0x30, given),
+        Call::Iadd32CinCout(given) => fields(0x40, given),
+        Call::Iadd32Cout(given) => fields(0x46, given),
         Call::AssertEq(given) => fields(0x60, given),
         Call::AssertEqCond(given) => fields(0x61, given),
         Call::AssertZero(given) => fields(0x62, given),

@@ -4,7 +4,7 @@ use crate::{Call, numbers::Numbers};
 
 /// Every carried opcode, in the order of opcode.rs, by how many destinations and how many sources it
 /// has. BxorMulti and hints have as many sources as they are made with.
-const KINDS: [(u8, usize, usize); 18] = [
+const KINDS: [(u8, usize, usize); 20] = [
     (0x01, 1, 2),
     (0x02, 1, 2),
     (0x03, 1, 2),
@@ -16,6 +16,8 @@ const KINDS: [(u8, usize, usize); 18] = [
     (0x22, 1, 2),
     (0x23, 2, 3),
     (0x30, 2, 2),
+    (0x40, 2, 3),
+    (0x46, 2, 2),
     (0x60, 0, 2),
     (0x61, 0, 3),
     (0x62, 0, 1),
@@ -111,6 +113,8 @@ pub fn with_fields(opcode: u8, fields: &[u32], path: u32, variant: u8, amount: u
         (0x22, &[d, a, b]) => Call::IaddCarry([d, a, b]),
         (0x23, &[d, e, a, b, c]) => Call::IsubBinBout([d, e, a, b, c]),
         (0x30, &[d, e, a, b]) => Call::Imul([d, e, a, b]),
+        (0x40, &[d, e, a, b, c]) => Call::Iadd32CinCout([d, e, a, b, c]),
+        (0x46, &[d, e, a, b]) => Call::Iadd32Cout([d, e, a, b]),
         (0x60, &[a, b]) => Call::AssertEq([a, b, path]),
         (0x61, &[a, b, c]) => Call::AssertEqCond([a, b, c, path]),
         (0x62, &[a]) => Call::AssertZero([a, path]),

@@ -62,6 +62,8 @@ pub fn list(rust: &dyn Rust, seed: u64) -> List {
         &[(0, 4), (0, 2), (2, 2)].map(stripe),
     );
 
+    put_halves(&mut lines, rust);
+
     // Nothing to run: no instructions, no rows, no columns, none of the columns.
     for (rows, width, first, count) in [(0, 0, 0, 0), (0, 3, 1, 2), (2, 0, 0, 0), (2, 3, 3, 0)] {
         let empty = Batch {
@@ -248,6 +250,49 @@ fn by_fours(words: &[u64]) -> impl Iterator<Item = (u8, [u64; 5])> {
             [4 * at, word(0), word(1), word(2), word(3)],
         )
     })
+}
+
+/// Two readings to the word: a carry that would cross from the low half into the high one, and each
+/// half's carry in.
+fn put_halves(lines: &mut Lines, rust: &dyn Rust) {
+    const LOW_ONES: u64 = 0xffff_ffff;
+    const BOTH_TOPS: u64 = 0x8000_0000_8000_0000;
+    // a, b, and the carries in, column by column; what is written holds 7 before.
+    let columns = [
+        [0x0000_0005_0000_0003, 0x0000_0001_0000_0002, 0],
+        [LOW_ONES, 1, 0],
+        [LOW_ONES, 0, 1 << 31],
+        [LOW_ONES, 0, 1 << 63],
+        [u64::MAX, 0, BOTH_TOPS],
+        [u64::MAX, u64::MAX, !BOTH_TOPS],
+        [BOTH_TOPS, BOTH_TOPS, 1 << 32],
+        [u64::MAX, 1 << 32, 1 << 63],
+    ];
+    let width = columns.len();
+    let mut values = vec![7; 7 * width];
+    for (column, words) in columns.iter().enumerate() {
+        for (row, &word) in words.iter().enumerate() {
+            values[row * width + column] = word;
+        }
+    }
+    let batch = Batch {
+        calls: vec![
+            Call::Iadd32CinCout([3, 4, 0, 1, 2]),
+            Call::Iadd32Cout([5, 6, 0, 1]),
+            Call::AssertEq([3, 5, 31]),
+            Call::AssertFalse([4, 32]),
+            Call::AssertFalse([6, 33]),
+        ],
+        rows: 7,
+        width,
+        values,
+    };
+    let stripes = [(0, width), (0, 2), (2, 2), (4, 4)].map(|(first, count)| Stripe {
+        first,
+        count,
+        cap: 3,
+    });
+    put(lines, rust, &batch, &stripes);
 }
 
 /// Three rows by patterns: assertions fail from column 4,000 on.

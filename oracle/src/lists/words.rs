@@ -17,6 +17,15 @@ use crate::{
 /// Bit positions at which every triple of bits is added and subtracted.
 const POSITIONS: [u32; 11] = [0, 1, 2, 7, 15, 31, 32, 33, 47, 62, 63];
 
+/// The same for the sum of a half, whose lowest bit is 0.
+const HALF_POSITIONS: [u32; 5] = [0, 1, 15, 30, 31];
+
+/// The low half of a word.
+const LOW_HALF: u64 = 0xffff_ffff;
+
+/// The top bits of the halves: the carries in.
+const TOPS: u64 = 0x8000_0000_8000_0000;
+
 /// How many words the list of sources and inputs holds.
 const SOURCES: usize = 64;
 
@@ -81,6 +90,19 @@ pub fn list(rust: &dyn Rust, seed: u64) -> List {
         let answers = ask(&Call::Imul([0, 1, 2, 3]), &[a, b], 2);
         assert_eq!(answers, rust.multiply(a, b));
         lines.case("Imul", 0x30, [a, b, 0, answers[0], answers[1]]);
+    }
+
+    for [a, b, c] in carried_halves(&mut numbers) {
+        let answers = ask(&Call::Iadd32CinCout([0, 1, 2, 3, 4]), &[a, b, c], 2);
+        assert_eq!(answers, rust.add_halves(a, b, c));
+        lines.case("Iadd32CinCout", 0x40, [a, b, c, answers[0], answers[1]]);
+    }
+
+    for [a, b] in bare_halves(&mut numbers) {
+        let answers = ask(&Call::Iadd32Cout([0, 1, 2, 3]), &[a, b], 2);
+        assert_eq!(answers, rust.add_bare_halves(a, b));
+        assert_eq!(answers, rust.add_halves(a, b, 0));
+        lines.case("Iadd32Cout", 0x46, [a, b, 0, answers[0], answers[1]]);
     }
 
     for [a, b] in pairs(&mut numbers) {
@@ -221,6 +243,57 @@ fn carried(
             let [a, b] = at(numbers, i, bits);
             let carry = if i == 0 { bits[2] << 63 } else { 0 };
             cases.push([a, b, carry]);
+        }
+    }
+    cases
+}
+
+/// Every pair of limits with every choice of the two carries in, every limit and single bit as the word
+/// of the carries in, what [`bare_halves`] has besides pairs, and others.
+fn carried_halves(numbers: &mut Numbers) -> Vec<[u64; 3]> {
+    let mut cases = Vec::new();
+    for [a, b] in pairs(numbers) {
+        for tops in [0, 1 << 31, 1 << 63, TOPS] {
+            // The carry in of a half is its top bit, and no other bit of the word counts.
+            cases.push([a, b, numbers.word() & !TOPS | tops]);
+        }
+    }
+    // A carry into all ones goes through the whole half.
+    cases.extend(singles(numbers).into_iter().map(|c| [u64::MAX, 0, c]));
+    cases.extend(half_triples(numbers));
+    cases.extend(half_bits().map(|[a, b]| [a, b, 0]));
+    cases
+}
+
+/// Every pair of limits, every triple of bits at the chosen positions of each half, single bits, and
+/// others.
+fn bare_halves(numbers: &mut Numbers) -> Vec<[u64; 2]> {
+    let mut cases = pairs(numbers);
+    cases.extend(half_triples(numbers).into_iter().map(|[a, b, _]| [a, b]));
+    cases.extend(half_bits());
+    cases
+}
+
+/// Every single bit twice, which carries out of it alone, and beside all ones, which carries on up to
+/// the top of its half.
+fn half_bits() -> impl Iterator<Item = [u64; 2]> {
+    (0..64).flat_map(|i| [1 << i, u64::MAX].map(|a| [a, 1 << i]))
+}
+
+/// Every triple of bits at the chosen positions of each half; the other half has random bits.
+fn half_triples(numbers: &mut Numbers) -> Vec<[u64; 3]> {
+    let mut cases = Vec::new();
+    for place in [0, 32] {
+        for i in HALF_POSITIONS {
+            for triple in 0..8 {
+                let bits = [triple & 1, triple >> 1 & 1, triple >> 2];
+                let [a, b] = sum_at(numbers, i, bits);
+                let carry = if i == 0 { bits[2] << 31 } else { 0 };
+                cases.push([a, b, carry].map(|half| {
+                    let other = numbers.word() & !(LOW_HALF << place);
+                    (half & LOW_HALF) << place | other
+                }));
+            }
         }
     }
     cases
