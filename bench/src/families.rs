@@ -22,7 +22,7 @@ pub struct Family {
 }
 
 /// The kinds that write, by what they write and read.
-const WRITING: [(&str, Kind); 24] = [
+const WRITING: [(&str, Kind); 26] = [
     ("Band", Kind::Plain(Opcode::Band, 1, 2)),
     ("Bor", Kind::Plain(Opcode::Bor, 1, 2)),
     ("Bxor", Kind::Plain(Opcode::Bxor, 1, 2)),
@@ -43,6 +43,8 @@ const WRITING: [(&str, Kind); 24] = [
     ("IaddCarry", Kind::Plain(Opcode::IaddCarry, 1, 2)),
     ("IsubBinBout", Kind::Plain(Opcode::IsubBinBout, 2, 3)),
     ("Imul", Kind::Plain(Opcode::Imul, 2, 2)),
+    ("Iadd32CinCout", Kind::Plain(Opcode::Iadd32CinCout, 2, 3)),
+    ("Iadd32Cout", Kind::Plain(Opcode::Iadd32Cout, 2, 2)),
     ("Hint-1", Kind::Hint(1, 2)),
     ("Hint-2", Kind::Hint(2, 1)),
     ("Hint-3-2", Kind::Hint(3, 2)),

@@ -17,6 +17,8 @@ fn instructions() -> Vec<Instruction> {
         (Opcode::IaddCarry, 1, 2),
         (Opcode::IsubBinBout, 2, 3),
         (Opcode::Imul, 2, 2),
+        (Opcode::Iadd32CinCout, 2, 3),
+        (Opcode::Iadd32Cout, 2, 2),
         (Opcode::BxorMulti, 1, 0),
         (Opcode::BxorMulti, 1, 1),
         (Opcode::BxorMulti, 1, 2),

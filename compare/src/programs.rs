@@ -61,15 +61,15 @@ fn assertion(numbers: &mut Numbers, rows: usize, path: u32) -> Instruction {
 
 /// An instruction that writes; nothing where it needs more rows.
 fn writing(numbers: &mut Numbers, rows: usize) -> Option<Instruction> {
-    let kind = numbers.below(14);
+    let kind = numbers.below(16);
     let (written, read) = match kind {
         0..=2 | 6 => (1, 2),
         3 | 5 => (1, 3),
         4 => (1, numbers.pick(&[0, 1, 2, 3, 7, 8, 9, 20])),
         7 | 8 => (1, 1),
-        9 | 10 => (2, 3),
-        11 => (2, 2),
-        12 => match numbers.below(2) {
+        9..=11 => (2, 3),
+        12 | 13 => (2, 2),
+        14 => match numbers.below(2) {
             0 => (2, 2),
             _ => (1, 1),
         },
@@ -115,8 +115,10 @@ fn writing(numbers: &mut Numbers, rows: usize) -> Option<Instruction> {
         }
         9 => Instruction::plain(Opcode::IaddCinCout, &destinations, &sources),
         10 => Instruction::plain(Opcode::IsubBinBout, &destinations, &sources),
-        11 => Instruction::plain(Opcode::Imul, &destinations, &sources),
-        12 => Instruction::hint(if written == 2 { 1 } else { 2 }, &[], &sources, &destinations),
+        11 => Instruction::plain(Opcode::Iadd32CinCout, &destinations, &sources),
+        12 => Instruction::plain(Opcode::Iadd32Cout, &destinations, &sources),
+        13 => Instruction::plain(Opcode::Imul, &destinations, &sources),
+        14 => Instruction::hint(if written == 2 { 1 } else { 2 }, &[], &sources, &destinations),
         _ => Instruction::hint(3, &[written as u32], &sources, &destinations),
     })
 }
@@ -161,6 +163,8 @@ pub fn call(instruction: &Instruction) -> oracle::Call {
         (Opcode::IaddCarry, _) => Call::IaddCarry(exactly(fields)),
         (Opcode::IsubBinBout, _) => Call::IsubBinBout(exactly(fields)),
         (Opcode::Imul, _) => Call::Imul(exactly(fields)),
+        (Opcode::Iadd32CinCout, _) => Call::Iadd32CinCout(exactly(fields)),
+        (Opcode::Iadd32Cout, _) => Call::Iadd32Cout(exactly(fields)),
         (Opcode::AssertEq, _) => Call::AssertEq(exactly(fields)),
         (Opcode::AssertEqCond, _) => Call::AssertEqCond(exactly(fields)),
         (Opcode::AssertZero, _) => Call::AssertZero(exactly(fields)),

@@ -87,7 +87,7 @@ fn gated() {
 #[test]
 fn every_instruction_over_the_limit_words() {
     let columns = every_instruction(&judge()).unwrap_or_else(|difference| panic!("{difference}"));
-    assert!(columns > 12_000, "{columns}");
+    assert!(columns > 17_000, "{columns}");
 }
 
 /// Every truncation, opcode byte, bit flip, count, register and overlap: of each instruction behind a good one, and of
@@ -107,6 +107,8 @@ fn every_damage_of_every_kind() {
         Instruction::plain(Opcode::IaddCarry, &[0], &[1, 1]),
         Instruction::plain(Opcode::IsubBinBout, &[0, 1], &[2, 3, 4]),
         Instruction::plain(Opcode::Imul, &[0, 1], &[2, 3]),
+        Instruction::plain(Opcode::Iadd32CinCout, &[0, 1], &[2, 3, 4]),
+        Instruction::plain(Opcode::Iadd32Cout, &[0, 1], &[2, 3]),
         Instruction::assertion(Opcode::AssertEq, &[0, 1], 1),
         Instruction::assertion(Opcode::AssertEqCond, &[0, 1, 2], 2),
         Instruction::assertion(Opcode::AssertZero, &[0], 3),
@@ -139,9 +141,12 @@ fn every_damage_of_every_kind() {
     }
     println!("{count} damaged programs, {tally:?}");
     assert!(count > 60_000, "{count}");
-    for number in [0, 4, 5, 6, 7, 8, 9, 10] {
+    for number in [0, 4, 6, 7, 8, 9, 10] {
         assert!(tally.refusals[number] > 300, "refusal {number}: {tally:?}");
     }
+    // One byte alone is 5, and each opcode byte was made that one.
+    let opcodes: usize = programs.iter().map(|(_, instructions)| instructions.len()).sum();
+    assert!(tally.refusals[5] >= opcodes as u64, "{opcodes} opcodes, {tally:?}");
 }
 
 /// The second reading writes the bytes that the given Rust's emitters write.

@@ -5,9 +5,11 @@ use compare::cases::{cases, Kind};
 use compare::subject::{Gates, Shape};
 use compare::{Judge, Subject};
 use reading::column::run_column;
+use reading::layout::{Instruction, Opcode};
 use reading::refusals::{Name, Refused};
 use reading::reports::Local;
 use reading::slots::{Policy, UNSLOTTED};
+use reading::words::{add, add_halves, top_bits};
 use reading::{batch, check, layout, packing, slots};
 
 const SEED: u64 = 19_860_126;
@@ -36,6 +38,8 @@ enum Fault {
     CapBeforeShape,
     LengthBeforeCap,
     RefusalTouchesTheValues,
+    /// Of one of the two instructions that add halves.
+    Halves(Opcode, Mistake),
     // of raising and joining
     SumWraps,
     SideKept,
@@ -50,6 +54,15 @@ enum Fault {
     PerWireOnlyMentioned,
     RefusalTouchesTheSlots,
     FallingEndsAccepted,
+}
+
+#[derive(Clone, Copy, Debug, PartialEq, Eq)]
+enum Mistake {
+    CarryGoesOnIntoTheHighHalf,
+    CarriesOfTheWholeWord,
+    LowCarryInFromBit63,
+    HighCarryInFromBit31,
+    CarriesInFromTheSecondOperand,
 }
 
 struct Planted(Fault);
@@ -70,7 +83,8 @@ impl Planted {
                 }
             }
             (Fault::TruncatedBeforeNotCarried, Err(Refused { name: Name::NotCarried, offset })) => {
-                if code.len() - offset < 17 {
+                // Bmul has 25 bytes
+                if code.len() - offset < 25 {
                     Err(Refused::at(Name::Truncated, offset))
                 } else {
                     judged
@@ -136,6 +150,16 @@ impl Subject for Planted {
             Fault::AlwaysClean => {
                 word = 0;
                 report.copy_from_slice(&report_before);
+            }
+            Fault::Halves(opcode, mistake) => {
+                let program = check::check(&code, rows).expect("accepted above");
+                for column in first..first + count {
+                    let mut words = batch::column_of(&before, told, column);
+                    run_mistaken(&program, opcode, mistake, &mut words);
+                    for (row, word) in words.into_iter().enumerate() {
+                        values[row * width + column] = word;
+                    }
+                }
             }
             Fault::AlwaysColumnZero if failing => word &= !(0xFFF << 9),
             Fault::PositionOfTheBatch if failing => word += 512 * first as u64,
@@ -276,6 +300,41 @@ fn make_sar_logical(code: &mut [u8]) {
     }
 }
 
+/// Runs a column with the mistake in every instruction of that opcode.
+fn run_mistaken(program: &[Instruction], opcode: Opcode, mistake: Mistake, column: &mut [u64]) {
+    for instruction in program {
+        run_column(std::slice::from_ref(instruction), column);
+        if instruction.opcode == opcode {
+            // No destination is a source, so what was read still stands there.
+            let read: Vec<u64> = instruction.sources.iter().map(|&register| column[register as usize]).collect();
+            let (sums, carries) = mistaken_halves(mistake, &read);
+            for (&register, word) in instruction.destinations.iter().zip([sums, carries]) {
+                column[register as usize] = word;
+            }
+        }
+    }
+}
+
+/// The sums and carries of two operands and, where there is one, of the word of the carries in.
+fn mistaken_halves(mistake: Mistake, read: &[u64]) -> (u64, u64) {
+    let (a, b) = (read[0], read[1]);
+    let [low_in, high_in] = read.get(2).map_or([false; 2], |&word| top_bits(word));
+    let (sums, carries) = add_halves(a, b, [low_in, high_in]);
+    match mistake {
+        Mistake::CarryGoesOnIntoTheHighHalf => {
+            let [low_out, _] = top_bits(carries);
+            add_halves(a, b, [low_in, high_in | low_out])
+        }
+        Mistake::CarriesOfTheWholeWord => {
+            let (_, of_the_word) = add(a, b, low_in);
+            (sums, of_the_word)
+        }
+        Mistake::LowCarryInFromBit63 => add_halves(a, b, [high_in; 2]),
+        Mistake::HighCarryInFromBit31 => add_halves(a, b, [low_in; 2]),
+        Mistake::CarriesInFromTheSecondOperand => add_halves(a, b, top_bits(b)),
+    }
+}
+
 /// Whether the cases of the kind tell the fault from the document.
 fn found(fault: Fault, kind: Kind, count: u64) -> bool {
     // The second reading alone: what it finds, it finds where the given Rust is absent, too.
@@ -305,6 +364,14 @@ fn every_planted_fault_is_found() {
         (Fault::CapBeforeShape, Kind::Shaped),
         (Fault::LengthBeforeCap, Kind::Shaped),
         (Fault::RefusalTouchesTheValues, Kind::Shaped),
+        (Fault::Halves(Opcode::Iadd32CinCout, Mistake::CarryGoesOnIntoTheHighHalf), Kind::Filled),
+        (Fault::Halves(Opcode::Iadd32CinCout, Mistake::CarriesOfTheWholeWord), Kind::Filled),
+        (Fault::Halves(Opcode::Iadd32CinCout, Mistake::LowCarryInFromBit63), Kind::Filled),
+        (Fault::Halves(Opcode::Iadd32CinCout, Mistake::HighCarryInFromBit31), Kind::Filled),
+        (Fault::Halves(Opcode::Iadd32CinCout, Mistake::CarriesInFromTheSecondOperand), Kind::Filled),
+        (Fault::Halves(Opcode::Iadd32Cout, Mistake::CarryGoesOnIntoTheHighHalf), Kind::Filled),
+        (Fault::Halves(Opcode::Iadd32Cout, Mistake::CarriesOfTheWholeWord), Kind::Filled),
+        (Fault::Halves(Opcode::Iadd32Cout, Mistake::CarriesInFromTheSecondOperand), Kind::Filled),
         (Fault::SumWraps, Kind::Joined),
         (Fault::SideKept, Kind::Joined),
         (Fault::CleanRaised, Kind::Joined),

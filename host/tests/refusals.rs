@@ -21,9 +21,7 @@ fn the_program_check() {
     assert_eq!(check(&[0; 65_537], 2), Err(Refusal::TooLong));
     assert_eq!(check(&[0; 65_537], 8_193), Err(Refusal::BadShape));
     assert_eq!(behind_a_good_one(vec![0x00]), Err(Refusal::UnknownOpcode(at)));
-    for byte in [0x31, 0x40, 0x46] {
-        assert_eq!(behind_a_good_one(vec![byte]), Err(Refusal::NotCarried(at)));
-    }
+    assert_eq!(behind_a_good_one(vec![0x31]), Err(Refusal::NotCarried(at)));
     assert_eq!(behind_a_good_one(vec![0x01]), Err(Refusal::Truncated(at)));
     assert_eq!(behind_a_good_one(Instruction::shift(0, 1, 8, 0).encode()), Err(Refusal::BadShift(at)));
     assert_eq!(behind_a_good_one(Instruction::hint(1, &[], &[0], &[1]).encode()), Err(Refusal::BadHint(at)));
@@ -31,6 +29,38 @@ fn the_program_check() {
     assert_eq!(behind_a_good_one(Instruction::shift(0, 0, 0, 0).encode()), Err(Refusal::Overlap(at)));
     assert_eq!(behind_a_good_one(Vec::new()), Ok(()));
     assert_eq!(check(&[], 8_192), Ok(()));
+}
+
+/// What document 02 adds is judged as the rest is: it is carried, and refused where its fields are wrong.
+#[test]
+fn sums_of_halves_are_carried() {
+    let carried =
+        |sum, carries, a, b, c| Instruction::plain(Opcode::Iadd32CinCout, &[sum, carries], &[a, b, c]).encode();
+    let bare = |sum, carries, a, b| Instruction::plain(Opcode::Iadd32Cout, &[sum, carries], &[a, b]).encode();
+    let at = ByteOffset::new(0);
+    for (length, code) in [(21, carried(3, 4, 0, 1, 2)), (17, bare(3, 4, 0, 1))] {
+        assert_eq!(code.len(), length);
+        assert_eq!(check(&code, 5), Ok(()));
+        assert_eq!(check(&code, 4), Err(Refusal::BadRegister(at)));
+        for end in 1..length {
+            assert_eq!(check(&code[..end], 5), Err(Refusal::Truncated(at)), "{end} of {length} bytes");
+        }
+    }
+    // a source may stand twice, a destination only once
+    assert_eq!(check(&carried(1, 2, 0, 0, 0), 3), Ok(()));
+    assert_eq!(check(&bare(1, 2, 0, 0), 3), Ok(()));
+    let overlapping = [
+        carried(3, 3, 0, 1, 2),
+        carried(0, 4, 0, 1, 2),
+        carried(3, 1, 0, 1, 2),
+        carried(3, 2, 0, 1, 2),
+        bare(3, 3, 0, 1),
+        bare(0, 3, 0, 1),
+        bare(3, 1, 0, 1),
+    ];
+    for code in overlapping {
+        assert_eq!(check(&code, 5), Err(Refusal::Overlap(at)), "{code:02x?}");
+    }
 }
 
 #[test]
