@@ -97,22 +97,29 @@ fn writing(numbers: &mut Numbers, kind: Kind) -> Instruction {
     }
 }
 
-pub fn all() -> Vec<Family> {
-    let mut numbers = Numbers::new(4_096);
-    let mut all = vec![Family { name: "empty", code: Vec::new() }];
-    // mostly what writes, and one assertion in eight
-    let mixed: Vec<Instruction> = (0..MIXED)
+/// Mostly what writes, of the kinds that are let by, and one assertion in eight.
+fn mixed(numbers: &mut Numbers, lets_by: fn(&Kind) -> bool) -> Vec<u8> {
+    let kinds: Vec<Kind> = WRITING.iter().map(|(_, kind)| *kind).filter(lets_by).collect();
+    let instructions: Vec<Instruction> = (0..MIXED)
         .map(|number| {
             if number % 8 == 7 {
                 let (_, opcode, sources) = numbers.pick(&HOLDING);
                 Instruction::assertion(opcode, sources, number as u32)
             } else {
-                let (_, kind) = numbers.pick(&WRITING);
-                writing(&mut numbers, kind)
+                let kind = numbers.pick(&kinds);
+                writing(numbers, kind)
             }
         })
         .collect();
-    all.push(Family { name: "mixed", code: encode_all(&mixed) });
+    encode_all(&instructions)
+}
+
+pub fn all() -> Vec<Family> {
+    let mut numbers = Numbers::new(4_096);
+    let mut all = vec![Family { name: "empty", code: Vec::new() }];
+    all.push(Family { name: "mixed", code: mixed(&mut numbers, |_| true) });
+    // A hint's time in the Rust is mostly its handler's, which is the harness's own.
+    all.push(Family { name: "mixed-without-hints", code: mixed(&mut numbers, |kind| !matches!(kind, Kind::Hint(..))) });
     for (name, kind) in WRITING {
         let alone: Vec<Instruction> = (0..ALONE).map(|_| writing(&mut numbers, kind)).collect();
         all.push(Family { name, code: encode_all(&alone) });

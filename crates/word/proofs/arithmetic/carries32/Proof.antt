@@ -1,6 +1,6 @@
 -- `word::arithmetic::carries32` meets its contract: the carry law of the width 32 on each half. Assumes nothing.
 use borrow.Author.Needs.{needs}
-use mathlib.Core.Path.{_≡_, sym, ap, ap₂, _∙_}
+use mathlib.Core.Path.{_≡_, sym, ap₂, _∙_}
 use Prim.Native.Nat.{ℕ, _+_, _*_, _/_, _%_, _^_, _<_}
 use native.Mathlib.Nat.{mod-lt}
 use lib.Pow.{split, shr-lt, pow-pos}
@@ -29,8 +29,7 @@ by-halves a b cin ha hb =
 returns : tie.Need-returns
 returns c =
     let s = c .before in
-    ap (masked 64 (s .args .a) (s .args .b)) (c .sum32 .ensures)
-    ∙ by-halves (s .args .a) (s .args .b) (s .args .cin) (s .fits .a .fits) (s .fits .b .fits)
+    cc (by-halves (s .args .a) (s .args .b) (s .args .cin) (s .fits .a .fits) (s .fits .b .fits))
 
 pub carries32-spec : {M : Type 1} → statement M
 carries32-spec = tie.close (tie.spec (λ c κs. search needs) returns)
