@@ -1,6 +1,7 @@
 // The given Rust's bytecode, replayed: the same calls of the emitters give the same bytes, lengths and
 // counts; its bytes decode to the calls that they came from; where document 01 accepts its program, so
-// does the check; and a shift of a variant that it does not have is refused.
+// does the check. What it has no answer for is held to document 01: a shift of a variant that it does not
+// have, a call without room, a dimension too large and a decoder without bytes are refused.
 //
 // The list is made by oracle/ and not by hand; oracle/src/lists/bytecode.rs says what its lines mean, and
 // oracle/README.md how to make it anew.
@@ -29,7 +30,13 @@ const EMITTED: u32 = 4;
 
 const DECODED: u32 = 6;
 
-const REFUSED: u32 = 8;
+const ROOM: u32 = 8;
+
+const VARIANT: u32 = 10;
+
+const DIMENSION: u32 = 12;
+
+const BYTES: u32 = 14;
 
 fn put_bytes(line: Numbers, bytes: &mut [u8]) {
     let at = wide(line.a);
@@ -196,7 +203,33 @@ fn decodes(line: Numbers, given: &[u8], at: usize, next: usize) -> bool {
     is_instruction(line, instruction)
 }
 
-// A call: it is emitted, and what the Rust emitted at the same place is decoded.
+// The refusal has the number, and hands the builder back as it was.
+fn is_refusal(why: Refusal, number: u8, after: BytecodeBuilder, before: BytecodeBuilder) -> bool {
+    refusal::number(why) == number && after.len == before.len && after.count == before.count
+}
+
+// A call into a buffer that ends a byte before the call would.
+fn lacks_room(
+    builder: BytecodeBuilder,
+    line: Numbers,
+    mine: &mut [u8],
+    list: &[u32],
+    to: usize,
+) -> bool {
+    if to == 0 {
+        return false;
+    }
+    let end = to - 1;
+    if mine.len() < end {
+        return false;
+    }
+    let Emitted::Refused(why, after) = emit(builder, &mut mine[0..end], line, list) else {
+        return false;
+    };
+    is_refusal(why, 11, after, builder)
+}
+
+// A call: it is emitted, and what the Rust emitted at the same place is decoded. A second time it has no room, and leaves the bytes alone.
 fn call(
     builder: BytecodeBuilder,
     line: Numbers,
@@ -212,17 +245,35 @@ fn call(
         return builder;
     };
     let to = next.len;
+    answers::note(tally, ROOM, lacks_room(builder, line, mine, list, to));
     answers::note(tally, EMITTED, answers::same_bytes(given, mine, from, to));
     answers::note(tally, DECODED, decodes(line, given, from, to));
     next
 }
 
-// A shift of a variant that the Rust does not have: 7, and the builder stays where it was.
-fn is_refused(builder: BytecodeBuilder, line: Numbers, mine: &mut [u8]) -> bool {
+// A shift of a variant that the Rust does not have.
+fn lacks_variant(builder: BytecodeBuilder, line: Numbers, mine: &mut [u8]) -> bool {
     let Emitted::Refused(why, after) = emit_shift(builder, mine, line) else {
         return false;
     };
-    refusal::number(why) == 7 && after.len == builder.len && after.count == builder.count
+    is_refusal(why, 7, after, builder)
+}
+
+fn large_dimension(mine: &mut [u8]) -> bool {
+    let builder = BytecodeBuilder::new();
+    let dimensions = [BytecodeBuilder::MAX_HINT_FIELD + 1];
+    let none: [u32; 0] = [];
+    let Emitted::Refused(why, after) = builder.emit_hint(mine, 3, &dimensions, &none, &none) else {
+        return false;
+    };
+    is_refusal(why, 8, after, builder)
+}
+
+fn no_bytes(given: &[u8]) -> bool {
+    let Decoded::Refused(why, at) = bytecode::decoder::decode(&given[0..0]) else {
+        return false;
+    };
+    refusal::number(why) == 6 && at == 0
 }
 
 fn is_accepted(given: &[u8], length: usize, rows: usize) -> bool {
@@ -270,7 +321,7 @@ fn turn(
             Step::Next(builder)
         }
         0xfd => {
-            answers::note(tally, REFUSED, is_refused(builder, line, mine));
+            answers::note(tally, VARIANT, lacks_variant(builder, line, mine));
             Step::Next(builder)
         }
         0xfe => {
@@ -299,14 +350,19 @@ fn results(tally: &[u64]) {
     answers::tell(b"accepted", tally, ACCEPTED);
     answers::tell(b"emitted", tally, EMITTED);
     answers::tell(b"decoded", tally, DECODED);
-    answers::tell(b"refused", tally, REFUSED);
+    answers::tell(b"no room", tally, ROOM);
+    answers::tell(b"no such variant", tally, VARIANT);
+    answers::tell(b"dimension too large", tally, DIMENSION);
+    answers::tell(b"no bytes", tally, BYTES);
 }
 
 fn main() {
     let mut given = [0u8; 8192];
     let mut mine = [0u8; 8192];
     let mut list = [0u32; 128];
-    let mut tally = [0u64; 10];
+    let mut tally = [0u64; 16];
+    answers::note(&mut tally, DIMENSION, large_dimension(&mut mine));
+    answers::note(&mut tally, BYTES, no_bytes(&given));
     replay(&mut given, &mut mine, &mut list, &mut tally);
     results(&tally);
 }

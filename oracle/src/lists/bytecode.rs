@@ -1,5 +1,6 @@
 //! The builder's bytes: random calls of every emitter, and what builder.rs makes of them. The same
-//! calls are emitted, and the Rust's bytes are decoded and, where document 01 accepts them, checked.
+//! calls are emitted, and the Rust's bytes are decoded and, where document 01 accepts them, checked. Into
+//! a buffer that is a byte short, document 01 refuses each call (11).
 //!
 //! Fields have eight digits. A program starts with its bytes, as the Rust emitted them:
 //! - `ff`: a place, and the sixteen bytes there, four to a field.
@@ -127,6 +128,9 @@ pub fn list(rust: &dyn Rust, seed: u64) -> List {
         program(&calls, Some(rows));
     }
 
+    // Two cases without a line: the program has them of itself.
+    lines.count("dimension too large");
+    lines.count("no bytes");
     lines.list("bytecode_answers")
 }
 
@@ -154,11 +158,12 @@ fn put(lines: &mut Lines, rust: &dyn Rust, calls: &[Call], accepted: Option<u32>
     for call in calls {
         let (opcode, fields) = put_call(lines, call);
         if is_the_rusts(call) {
-            // One line, two cases: it is emitted, and it is decoded.
+            // One line, three cases: it is emitted, it is decoded, and a byte short it has no room.
             lines.case("emitted", opcode, fields);
             lines.count("decoded");
+            lines.count("no room");
         } else {
-            lines.case("refused", 0xfd, fields);
+            lines.case("no such variant", 0xfd, fields);
         }
     }
     let (rows, is_accepted) = accepted.map_or((0, 0), |rows| (rows.into(), 1));
