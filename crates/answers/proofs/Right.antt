@@ -1,7 +1,7 @@
 -- Laws of the form of a line, for the loop that looks at each byte. Assumes nothing.
 use Prim.Native.Nat.{ℕ, _+_, _-_, _%_, _≤_, _<_}
-use mathlib.Core.Path.{_≡_, refl, sym, _∙_}
-use mathlib.Core.Bool.{Bool, true, false, _&&_}
+use mathlib.Core.Path.{_≡_, refl}
+use mathlib.Core.Bool.{true, false, _&&_}
 use mathlib.Core.List.{List, [], _∷_}
 use native.Mathlib.Nat.{sub-zero}
 use native.Mathlib.Omega.{arith}
@@ -11,23 +11,29 @@ use lib.Seq.{drop-cons}
 use lib.Dec.{eqb}
 use Rattle.answers.specs.Line.{isRight, allRight, isLine}
 
--- one more byte
-next-byte : (apart i : ℕ) (text : List ℕ) → i < length text → allRight apart i (drop i text) ≡ (isRight (i % apart) (getD text i 0) && allRight apart (i + 1) (drop (i + 1) text))
-unfolding allRight
-next-byte apart i text there = rw (add-one, drop-cons text i 0)
+-- the loop before byte i: what is left decides
+pub record Looking (apart : ℕ) (text : List ℕ) (i : ℕ) : Type 0 where
+  pub within : i ≤ length text
+  pub rest : allRight apart i (drop i text) ≡ allRight apart 0 text
 
--- a wrong one decides
-pub wrong : (apart i : ℕ) (text : List ℕ) → i < length text → isRight (i % apart) (getD text i 0) ≡ false → false ≡ allRight apart i (drop i text)
-wrong apart i text there is = sym (next-byte apart i text there ∙ rw is)
+module _ {apart : ℕ} {text : List ℕ} {i : ℕ} (p : Looking apart text i) where
+  -- one more byte
+  next-byte : i < length text → (isRight (i % apart) (getD text i 0) && allRight apart (i + 1) (drop (i + 1) text)) ≡ allRight apart 0 text
+  unfolding allRight
+  next-byte there = rw add-one (rw (drop-cons text i 0 there) at (p .rest))
 
--- a right one leaves it to the rest
-pub right : (apart i : ℕ) (text : List ℕ) → i < length text → isRight (i % apart) (getD text i 0) ≡ true → allRight apart (i + 1) (drop (i + 1) text) ≡ allRight apart i (drop i text)
-right apart i text there is = sym (next-byte apart i text there ∙ rw is)
+  -- a wrong one decides
+  pub wrong : i < length text → isRight (i % apart) (getD text i 0) ≡ false → false ≡ allRight apart 0 text
+  wrong there is = rw is at (next-byte there)
 
--- no byte is wrong past the end
-pub at-end : (apart i : ℕ) (text : List ℕ) → length text ≤ i → true ≡ allRight apart i (drop i text)
-unfolding allRight
-at-end apart i text past = rw drop-of-length-le
+  -- a right one leaves it to the rest
+  pub right : i < length text → isRight (i % apart) (getD text i 0) ≡ true → Looking apart text (i + 1)
+  right there is = record { within = omega arith; rest = rw is at (next-byte there) }
+
+  -- no byte is wrong past the end
+  pub at-end : length text ≤ i → true ≡ allRight apart 0 text
+  unfolding allRight
+  at-end past = rw (drop-of-length-le text past) at (p .rest)
 
 -- an empty text is no line
 pub empty : (apart : ℕ) (text : List ℕ) → length text ≡ 0 → false ≡ isLine apart text

@@ -1,19 +1,18 @@
--- What an accepted call says of its sizes, and which calls are accepted with it; an accepted program leaves the registers past the rows alone,
--- so that what a run leaves in the array is, column by column, each column's own run. Assumes nothing.
+-- The destinations of an accepted program are below the rows, so it leaves the registers past them alone; and so what a run leaves in the array is,
+-- column by column, each column's own run. Assumes nothing.
 use Prim.Native.Nat.{ℕ, zero, suc, _+_, _*_, _/_, _%_, _<_, _≤_}
 use mathlib.Core.Path.{_≡_, refl, sym, ap, ap₂, _∙_, subst, fun-ext}
 use mathlib.Core.Bool.{Bool, true, false, cond}
 use mathlib.Core.Logic.{⊎-elim}
-use mathlib.Core.List.{List, [], _∷_}
+use mathlib.Core.List.{List}
 use native.Mathlib.Omega.{arith}
 use native.Mathlib.Decide.{decLt}
 use lib.ListN.{length, getD, drop, length-drop}
 use lib.Arith.{digits-div, digits-mod, digits-lt}
 use lib.Dec.{ltb}
-use borrow.Author.Tests.{leb-true, eqb-true, not-false, le-leb, eq-eqb, ne-eqb}
+use borrow.Author.Tests.{not-false, ne-eqb}
 use Rattle.common.specs.Lists.{allBelow}
 use Rattle.common.proofs.Bools.{both}
-use Rattle.common.proofs.Below.{below-head, below-tail}
 use Rattle.bytecode.specs.Instruction.{Inst}
 use Rattle.bytecode.specs.Parse.{Parsed, whole, refused, parse}
 use Rattle.bytecode.specs.Program.{programOf}
@@ -21,67 +20,17 @@ use Rattle.bytecode.proofs.Tables.{settle}
 use Rattle.bytecode.proofs.Programs.{program-next, program-empty, whole-within}
 use Rattle.accept.specs.Check.{Verdict, accepted, refusal, judged, badRegister, andThen, firstThen, walkFrom, checkOf}
 use Rattle.accept.proofs.Soundness.{clash, faultless}
-use Rattle.report.specs.Sizes.{maxWidth, maxCap, recordWords}
-use Rattle.rows.specs.Column.{Col, column, store, stores, tabulate, inStripe, onStripe}
+use Rattle.rows.specs.Column.{Col, column, tabulate, inStripe, onStripe}
 use Rattle.rows.specs.Working.{Across}
 use Rattle.rows.specs.declared.Stripe.{Stripe}
-use Rattle.rows.proofs.Columns.{store-there}
 use Rattle.rows.proofs.Stripes.{column-at, column-past, length-tabulate, getD-tabulate, in-stripe, below-stripe, above-stripe}
-use Rattle.fill.specs.Meaning.{step, runCol}
-use Rattle.fill.specs.Run.{Call, badShape, badCap, verdictOf}
+use Rattle.fill.proofs.Meanings.{Keeps, DestsBelow}
 
--- ---- the sizes of an accepted call
-
-pub record Fits (c : Call) : Type 0 where
-  pub few-rows : c .rows ≤ 8192
-  pub narrow : c .width ≤ maxWidth
-  pub size : length (c .values) ≡ c .rows * c .width
-  pub within : c .first + c .count ≤ c .width
-  pub few-kept : c .cap ≤ maxCap
-  pub room : length (c .report) ≡ c .cap * recordWords
-  pub checked : checkOf (c .code) (c .rows) ≡ accepted
+-- ---- the destinations of an accepted program are below the rows
 
 passed : (t : Bool) (n o : ℕ) (v : Verdict) → cond t (refusal n o) v ≡ accepted → (t ≡ false) × (v ≡ accepted)
 passed true n o v e = absurd (clash n o e)
 passed false n o v e = (refl, e)
-
-pub accepted-fits : (c : Call) → verdictOf c ≡ accepted → Fits c
-unfolding verdictOf
-accepted-fits c e =
-    let p = passed (badShape c) 1 0 _ e in
-    let q = passed (badCap c) 2 0 _ (p .1) in
-    let shape = both _ _ (not-false _ (p .0)) in
-    let wide = both _ _ (shape .1) in
-    let long = both _ _ (wide .1) in
-    let kept = both _ _ (not-false _ (q .0)) in
-    record {
-      few-rows = leb-true (c .rows) 8192 (shape .0);
-      narrow = leb-true (c .width) maxWidth (wide .0);
-      size = eqb-true (length (c .values)) (c .rows * c .width) (long .0);
-      within = leb-true (c .first + c .count) (c .width) (long .1);
-      few-kept = leb-true (c .cap) maxCap (kept .0);
-      room = eqb-true (length (c .report)) (c .cap * recordWords) (kept .1);
-      checked = q .1;
-    }
-
-pub fits-accepted : (c : Call) → Fits c → verdictOf c ≡ accepted
-unfolding verdictOf
-fits-accepted c f =
-    rw (
-      le-leb (c .rows) 8192 (f .few-rows),
-      le-leb (c .width) maxWidth (f .narrow),
-      eq-eqb (length (c .values)) (c .rows * c .width) (f .size),
-      le-leb (c .first + c .count) (c .width) (f .within),
-      le-leb (c .cap) maxCap (f .few-kept),
-      eq-eqb (length (c .report)) (c .cap * recordWords) (f .room),
-    )
-    (f .checked)
-
--- ---- the destinations of an accepted program are below the rows
-
-abbrev pub DestsBelow : ℕ → List Inst → Type 0
-DestsBelow rows [] = Unit {0}
-DestsBelow rows (i ∷ is) = (allBelow rows (i .dests) ≡ true) × DestsBelow rows is
 
 and-then : (v : Verdict) (at : ℕ) (w : Verdict) → andThen v at w ≡ accepted → (v ≡ accepted) × (w ≡ accepted)
 and-then accepted at w e = (refl, e)
@@ -117,23 +66,7 @@ checked-dests s rows e =
     let q = passed (ltb 65536 (length s)) 3 0 _ (p .1) in
     walk-dests (length s) rows s 0 (omega arith) (q .1)
 
--- ---- so it leaves the registers past the rows alone
-
-abbrev pub Keeps : ℕ → (Col → Col) → Type 0
-Keeps rows F = (col : Col) (r : ℕ) → rows ≤ r → F col r ≡ col r
-
-stores-keep : (rows : ℕ) (ds vs : List ℕ) → allBelow rows ds ≡ true → Keeps rows (stores ds vs)
-stores-keep rows [] vs b col r h = refl
-stores-keep rows (d ∷ ds) vs b col r h =
-    stores-keep rows ds (drop 1 vs) (below-tail rows d ds b) (store col d (getD vs 0 0)) r h
-    ∙ store-there col d (getD vs 0 0) (λ e. absurd (omega (arith, below-head rows d ds b)))
-
-pub run-keeps : (rows : ℕ) (is : List Inst) → DestsBelow rows is → Keeps rows (runCol is)
-unfolding runCol
-run-keeps rows [] g col r h = refl
-run-keeps rows (i ∷ is) g col r h = run-keeps rows is (g .1) (step i col) r h ∙ stores-keep rows (i .dests) _ (g .0) col r h
-
--- ---- and `onStripe` is `Across`: each column of the stripe is its own run, every other one as it was
+-- ---- where the registers past the rows are left alone, `onStripe` is `Across`: each column of the stripe is its own run, every other one as it was
 
 module _ (F : Col → Col) (s : Stripe) (xs : List ℕ) (size : length xs ≡ s .rows * s .width) (keeps : Keeps (s .rows) F) where
   abbrev on : List ℕ

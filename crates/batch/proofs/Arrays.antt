@@ -5,7 +5,6 @@ use mathlib.Core.Path.{_≡_, refl, sym, ap, _∙_, subst}
 use mathlib.Core.Logic.{_⊎_, ⊎-elim, inl, inr}
 use mathlib.Core.List.{List, [], _∷_}
 use native.Mathlib.Omega.{arith}
-use native.Mathlib.Decide.{decLt}
 use lib.ListN.{length}
 use Rattle.bytecode.specs.Program.{programOf}
 use Rattle.accept.specs.Check.{accepted}
@@ -13,12 +12,14 @@ use Rattle.report.specs.Sizes.{recordWords}
 use Rattle.report.specs.Records.{reportOf, recordsOf}
 use Rattle.rows.specs.Column.{Col, column, onStripe}
 use Rattle.rows.specs.Working.{Across}
-use Rattle.rows.proofs.Stripes.{across-is}
+use Rattle.rows.proofs.Stripes.{across-is, where?}
 use Rattle.fill.specs.Meaning.{runCol}
 use Rattle.fill.specs.Run.{Call, reports, verdictOf, lowestOf, answerOf, valuesOf, bufferOf}
+use Rattle.fill.proofs.Meanings.{dests-keep}
+use Rattle.fill.proofs.Refusals.{Fit, fit-accepted}
 use Rattle.batch.specs.Cut.{Batch, Part, Share, stripeOf, Roomy}
 use Rattle.batch.specs.Batch.{callOf, wholeCall, arrayAfter}
-use Rattle.batch.proofs.Accepted.{Fits, fits-accepted, checked-dests, run-keeps, on-across}
+use Rattle.batch.proofs.Accepted.{checked-dests, on-across}
 use Rattle.batch.proofs.Cuts.{had, In, had-in, had-below, had-above, Inside, shared, AllInside}
 
 -- ---- an accepted call's answers
@@ -37,27 +38,24 @@ module _ (c : Call) (ok : verdictOf c ≡ accepted) where
   buffer-is = rw ok
 
 -- what an accepted call leaves, column by column
-pub values-across : (c : Call) → Fits c
+pub values-across : (c : Call) → Fit c
     → Across (runCol (programOf (c .code))) (record { rows = c .rows; width = c .width; first = c .first; count = c .count }) (c .values) (valuesOf c)
 values-across c f =
-    subst (Across _ _ (c .values)) (sym (values-are c (fits-accepted c f)))
-    (on-across (runCol (programOf (c .code))) (record { rows = c .rows; width = c .width; first = c .first; count = c .count }) (c .values) (f .size)
-    (run-keeps (c .rows) (programOf (c .code)) (checked-dests (c .code) (c .rows) (f .checked))) (f .within))
+    subst (Across _ _ (c .values)) (sym (values-are c (fit-accepted c f)))
+    (on-across (runCol (programOf (c .code))) (record { rows = c .rows; width = c .width; first = c .first; count = c .count }) (c .values) (f .shape .array)
+    (dests-keep (c .rows) (programOf (c .code)) (checked-dests (c .code) (c .rows) (f .program))) (f .shape .stripe))
 
 -- ---- a column in a stripe and out of it
 
 pub in-or-out : (s : Part) (c : ℕ) → In s c ⊎ ((c < s .first) ⊎ (s .first + s .count ≤ c))
-in-or-out s c = go (decLt c (s .first)) (decLt c (s .first + s .count))
-  where
-    go : Dec (c < s .first) → Dec (c < s .first + s .count) → In s c ⊎ ((c < s .first) ⊎ (s .first + s .count ≤ c))
-    go (yes p) q = inr (inl p)
-    go (no n) (yes q) = inl (omega arith, q)
-    go (no n) (no m) = inr (inr (omega arith))
+in-or-out s c =
+    ⊎-elim (λ b. inr (inl b)) (λ q. ⊎-elim (λ i. inl (omega (arith, i .1, i .2), omega (arith, i .1, i .2))) (λ a. inr (inr a)) q)
+    (where? (s .first) (s .count) c)
 
 pub had-out : (s : Part) (c : ℕ) → (c < s .first) ⊎ (s .first + s .count ≤ c) → had c s ≡ 0
 had-out s c o = ⊎-elim (λ h. had-below s c h) (λ h. had-above s c h) o
 
-module _ (b : Batch) (fresh : List ℕ) (f : Fits (wholeCall b fresh)) where
+module _ (b : Batch) (fresh : List ℕ) (f : Fit (wholeCall b fresh)) where
   abbrev pub run : Col → Col
   run = runCol (programOf (b .code))
 
@@ -69,16 +67,16 @@ module _ (b : Batch) (fresh : List ℕ) (f : Fits (wholeCall b fresh)) where
   Full xs = length xs ≡ b .rows * b .width
 
   -- every stripe of the batch is accepted, whatever its buffer has in it
-  pub share-fits : (s : Share) (xs : List ℕ) → Full xs → Inside (b .width) (stripeOf s) → length (s .buffer) ≡ b .cap * recordWords → Fits (callOf b s xs)
+  pub share-fits : (s : Share) (xs : List ℕ) → Full xs → Inside (b .width) (stripeOf s) → length (s .buffer) ≡ b .cap * recordWords → Fit (callOf b s xs)
   share-fits s xs e w r =
-      record { few-rows = f .few-rows; narrow = f .narrow; size = e; within = w; few-kept = f .few-kept; room = r; checked = f .checked }
+      record { shape = record { few-rows = f .shape .few-rows; narrow = f .shape .narrow; array = e; stripe = w }; few = f .few; buffer = r; program = f .program }
 
   pub record StripeRan (s : Part) (xs ys : List ℕ) : Type 0 where
     pub size : length ys ≡ length xs
     pub inside : (c : ℕ) → c < b .width → In s c → col ys c ≡ run (col xs c)
     pub outside : (c : ℕ) → c < b .width → (c < s .first) ⊎ (s .first + s .count ≤ c) → col ys c ≡ col xs c
 
-  pub share-ran : (s : Share) (xs : List ℕ) → Fits (callOf b s xs) → StripeRan (stripeOf s) xs (valuesOf (callOf b s xs))
+  pub share-ran : (s : Share) (xs : List ℕ) → Fit (callOf b s xs) → StripeRan (stripeOf s) xs (valuesOf (callOf b s xs))
   share-ran s xs g =
       let a = values-across (callOf b s xs) g in
       record {
@@ -120,15 +118,15 @@ module _ (b : Batch) (fresh : List ℕ) (f : Fits (wholeCall b fresh)) where
   pub array-whole : (ss : List Share) → AllInside (b .width) ss → Roomy (b .cap) ss → ((c : ℕ) → c < b .width → shared ss c ≡ 1)
       → arrayAfter b ss (b .values) ≡ valuesOf (wholeCall b fresh)
   array-whole ss w r once =
-      let m = shares-mixed ss w r (b .values) (f .size) in
-      across-is run (record { rows = b .rows; width = b .width; first = 0; count = b .width }) (b .values) (f .size)
+      let m = shares-mixed ss w r (b .values) (f .shape .array) in
+      across-is run (record { rows = b .rows; width = b .width; first = 0; count = b .width }) (b .values) (f .shape .array)
       (record {
         size = m .size;
         inside = λ k h. m .once (0 + k) (omega arith) (once (0 + k) (omega arith));
         outside = λ c h o. absurd (⊎-elim (λ l. omega arith) (λ l. omega arith) o);
       })
-      ∙ sym (values-are (wholeCall b fresh) (fits-accepted (wholeCall b fresh) f))
+      ∙ sym (values-are (wholeCall b fresh) (fit-accepted (wholeCall b fresh) f))
 
   pub array-columns : (ss : List Share) → AllInside (b .width) ss → Roomy (b .cap) ss → ((c : ℕ) → c < b .width → shared ss c ≡ 1)
       → (c : ℕ) → c < b .width → col (arrayAfter b ss (b .values)) c ≡ run (col (b .values) c)
-  array-columns ss w r once c h = shares-mixed ss w r (b .values) (f .size) .once c h (once c h)
+  array-columns ss w r once c h = shares-mixed ss w r (b .values) (f .shape .array) .once c h (once c h)

@@ -1,5 +1,5 @@
 -- Demand 2 of a single parcel, and demand 3: of every accepted batch and every cut of it. Assumes nothing.
-use Prim.Native.Nat.{ℕ, zero, suc, _+_, _*_, _-_, _<_, _≤_}
+use Prim.Native.Nat.{ℕ, zero, suc, _+_, _*_, _<_, _≤_}
 use mathlib.Core.Path.{_≡_, refl, sym, ap, ap₂, _∙_, subst, fun-ext}
 use mathlib.Core.Logic.{_⊎_, _↔_, ⊎-elim, inl, inr}
 use mathlib.Core.List.{List, [], _∷_, _++_, map, List·Permᴰ}
@@ -19,10 +19,10 @@ use Rattle.rows.specs.Column.{Col, column, tabulate}
 use Rattle.rows.proofs.Stripes.{column-at, column-past, length-tabulate, getD-tabulate}
 use Rattle.fill.specs.Meaning.{runCol, violations}
 use Rattle.fill.specs.Run.{reports, verdictOf, lowestOf, valuesOf}
+use Rattle.fill.proofs.Refusals.{Fit, accepted-fit, fit-accepted}
 use Rattle.batch.specs.Cut.{Batch, Share, share, stripeOf, Roomy, Cut}
 use Rattle.batch.specs.Batch.{callOf, wholeCall, arrayAfter, handed, afterRun, handIn, handedIn, AllHanded, leaves, keptBy, read, columnOf, violationsOf, filledOf, aloneCall}
 use Rattle.batch.specs.Demands.{Tells, Parcel, CutAnyhow}
-use Rattle.batch.proofs.Accepted.{Fits, accepted-fits, fits-accepted}
 use Rattle.batch.proofs.Cuts.{had, In, had-in, shared, AllInside, sum-append, all-left, all-right, sum-perm, all-perm, cut-most, cut-once, cut-inside}
 use Rattle.batch.proofs.Arrays.{answer-is, buffer-is, values-across, in-or-out, had-out, share-fits, share-ran, array-whole, array-columns}
 use Rattle.batch.proofs.Leaves.{lowIn, leafOf, HandsIn, leaf-told, leaves-handed}
@@ -71,20 +71,20 @@ module _ (b : Batch) (narrow : b .width ≤ maxWidth) where
 
 -- ---- what the runs hand in does not hang on the order in which they run
 
-module _ (b : Batch) (fresh : List ℕ) (f : Fits (wholeCall b fresh)) where
+module _ (b : Batch) (fresh : List ℕ) (f : Fit (wholeCall b fresh)) where
   abbrev col : List ℕ → ℕ → Col
   col xs c = column (b .rows) (b .width) xs c
 
-  hand-in-is : (s : Share) (xs : List ℕ) → Fits (callOf b s xs) → ((c : ℕ) → c < b .width → In (stripeOf s) c → col xs c ≡ columnOf b c) → handIn b s xs ≡ leafOf b s
+  hand-in-is : (s : Share) (xs : List ℕ) → Fit (callOf b s xs) → ((c : ℕ) → c < b .width → In (stripeOf s) c → col xs c ≡ columnOf b c) → handIn b s xs ≡ leafOf b s
   unfolding lowestOf
   hand-in-is s xs g agree =
-      ap₂ (afterRun (s .stripe .first)) (answer-is (callOf b s xs) (fits-accepted _ g)) (buffer-is (callOf b s xs) (fits-accepted _ g))
+      ap₂ (afterRun (s .stripe .first)) (answer-is (callOf b s xs) (fit-accepted _ g)) (buffer-is (callOf b s xs) (fit-accepted _ g))
       ∙ ap (λ l. afterRun (s .stripe .first) (reports (reportOf (b .cap) l)) (recordsOf (b .cap) l (s .buffer))) low
     where
       low : lowestOf (callOf b s xs) ≡ lowIn b (stripeOf s)
       low =
           lowest-ext (λ k. violations (programOf (b .code)) (col xs (s .stripe .first + k))) (λ k. violationsOf b (s .stripe .first + k)) (s .stripe .count)
-          (λ k h. ap (violations (programOf (b .code))) (agree (s .stripe .first + k) (omega (arith, g .within)) (omega arith, omega arith)))
+          (λ k h. ap (violations (programOf (b .code))) (agree (s .stripe .first + k) (omega (arith, g .shape .stripe)) (omega arith, omega arith)))
 
   handed-in-are : (ss : List Share) → AllInside (b .width) ss → Roomy (b .cap) ss → ((c : ℕ) → shared ss c ≤ 1) → (xs : List ℕ) → length xs ≡ b .rows * b .width
       → ((c : ℕ) → c < b .width → Has ss c → col xs c ≡ columnOf b c) → handedIn b ss xs ≡ map (leafOf b) ss
@@ -103,9 +103,9 @@ module _ (b : Batch) (fresh : List ℕ) (f : Fits (wholeCall b fresh)) where
 
   -- ---- a parcel alone
 
-  alone-fits : (c : ℕ) → Fits (aloneCall b fresh c)
+  alone-fits : (c : ℕ) → Fit (aloneCall b fresh c)
   alone-fits c =
-      record { few-rows = f .few-rows; narrow = omega arith; size = length-tabulate (b .rows) _ ∙ omega arith; within = omega arith; few-kept = f .few-kept; room = f .room; checked = f .checked }
+      record { shape = record { few-rows = f .shape .few-rows; narrow = omega arith; array = length-tabulate (b .rows) _ ∙ omega arith; stripe = omega arith }; few = f .few; buffer = f .buffer; program = f .program }
 
   same-place : (k : ℕ) → k * 1 + 0 ≡ k
   same-place k = omega arith
@@ -150,8 +150,8 @@ module _ (b : Batch) (fresh : List ℕ) (f : Fits (wholeCall b fresh)) where
 -- demand 2: a parcel alone, and the same parcel in the batch
 pub parcel : (b : Batch) (buffer : List ℕ) → verdictOf (wholeCall b buffer) ≡ accepted → (c : ℕ) → c < b .width → Parcel b buffer c
 parcel b buffer ok c h =
-    let f = accepted-fits (wholeCall b buffer) ok in
-    let g = fits-accepted (aloneCall b buffer c) (alone-fits b buffer f c) in
+    let f = accepted-fit (wholeCall b buffer) ok in
+    let g = fit-accepted (aloneCall b buffer c) (alone-fits b buffer f c) in
     record {
       alone-accepted = g;
       alone-words = alone-list b buffer f c;
@@ -163,7 +163,7 @@ parcel b buffer ok c h =
 -- demand 3: every accepted batch, every cut, every order of running, and, apart from it, every order and bracketing of joining
 pub cut-anyhow : (b : Batch) (buffer : List ℕ) → verdictOf (wholeCall b buffer) ≡ accepted → (ss : List Share) → Cut b ss → CutAnyhow b buffer ss
 cut-anyhow b buffer ok ss cut = record {
-  all-handed = subst AllHanded (sym handed-are) (leaves-handed b (f .narrow) ss inside);
+  all-handed = subst AllHanded (sym handed-are) (leaves-handed b (f .shape .narrow) ss inside);
   array = array-whole b buffer f ss inside (cut .roomy) once;
   columns = columns;
   parcels = λ c h. columns c h ∙ sym (alone-filled b buffer f c);
@@ -174,7 +174,7 @@ cut-anyhow b buffer ok ss cut = record {
   joins = λ t p.
       let q = perm-back (leafOf b) (leaves t) (handedIn b ss (b .values)) p ss handed-are in
       let same : (c : ℕ) → shared (q .0) c ≡ shared ss c = λ c. sum-perm (λ s. had c (stripeOf s)) (q .1) in
-      let shown = tree-shown b (f .narrow) t (q .0) (q .2) (all-perm _ (q .1) inside) (λ c. omega (arith, same c, most c)) in
+      let shown = tree-shown b (f .shape .narrow) t (q .0) (q .2) (all-perm _ (q .1) inside) (λ c. omega (arith, same c, most c)) in
       shown-only (b .cap) (violationsOf b) (λ c. c < b .width) (joinTree t) (w .report) _
       (shown-as (b .cap) (violationsOf b) (Has (q .0)) (λ c. c < b .width)
       (λ c h. in-width c (omega (arith, same c)))
@@ -183,8 +183,8 @@ cut-anyhow b buffer ok ss cut = record {
       tells;
 }
   where
-    f : Fits (wholeCall b buffer)
-    f = accepted-fits (wholeCall b buffer) ok
+    f : Fit (wholeCall b buffer)
+    f = accepted-fit (wholeCall b buffer) ok
 
     inside : AllInside (b .width) ss
     inside = cut-inside b ss cut
@@ -199,7 +199,7 @@ cut-anyhow b buffer ok ss cut = record {
     whole = share 0 (b .width) buffer
 
     w : HandsIn b whole
-    w = leaf-told b whole (f .narrow) (omega arith)
+    w = leaf-told b whole (f .shape .narrow) (omega arith)
 
     tells : Tells (λ c. c < b .width) (b .cap) (violationsOf b) (w .report) (take (keptBy (w .report) * recordWords) (w .after))
     tells =
@@ -207,7 +207,7 @@ cut-anyhow b buffer ok ss cut = record {
         (λ c i. omega (arith, i)) (λ c h. (omega arith, omega arith)) (w .report) _ (w .tells)
 
     handed-are : handedIn b ss (b .values) ≡ map (leafOf b) ss
-    handed-are = handed-in-are b buffer f ss inside (cut .roomy) most (b .values) (f .size) (λ c h i. refl)
+    handed-are = handed-in-are b buffer f ss inside (cut .roomy) most (b .values) (f .shape .array) (λ c h i. refl)
 
     columns : (c : ℕ) → c < b .width → column (b .rows) (b .width) (arrayAfter b ss (b .values)) c ≡ filledOf b c
     columns = array-columns b buffer f ss inside (cut .roomy) once

@@ -1,6 +1,6 @@
 -- What room means, and the answers of an emitter that found it or did not. Assumes nothing.
 use Prim.Native.Nat.{ℕ, min, _+_, _≤_, _<_}
-use mathlib.Core.Path.{_≡_, refl}
+use mathlib.Core.Path.{_≡_, refl, sym, _∙_}
 use mathlib.Core.List.{List}
 use mathlib.Core.Bool.{Bool, true, false, cond, _||_, or-false}
 use native.Mathlib.Omega.{arith}
@@ -54,13 +54,17 @@ refused-by : (t : Bool) (b : BytecodeBuilder) (n : ℕ) (r : Refusal) (x : Bytec
 refused-by true b n r x e = refl
 refused-by false b n r x e = let z : _≡_ {A = ℕ} 0 1 = cc in absurd (omega arith)
 
-pub has-room : (b : BytecodeBuilder) (m n : ℕ) (x : BytecodeBuilder) → reserved b m n ≡ E.Done x → noRoom b m n ≡ false
-unfolding reserved
-has-room b m n x e = reserved-by (noRoom b m n) b n x e
+module _ (b : BytecodeBuilder) (m n : ℕ) {r : Emitted} {x : BytecodeBuilder} (a : r ≡ reserved b m n) where
+  has-room : r ≡ E.Done x → noRoom b m n ≡ false
+  unfolding reserved
+  has-room d = reserved-by (noRoom b m n) b n x (sym a ∙ d)
 
-pub no-room : (b : BytecodeBuilder) (m n : ℕ) (r : Refusal) (x : BytecodeBuilder) → reserved b m n ≡ E.Refused r x → noRoom b m n ≡ true
-unfolding reserved
-no-room b m n r x e = refused-by (noRoom b m n) b n r x e
+  no-room : {q : Refusal} → r ≡ E.Refused q x → noRoom b m n ≡ true
+  unfolding reserved
+  no-room {q} d = refused-by (noRoom b m n) b n q x (sym a ∙ d)
+
+  pub granted : r ≡ E.Done x → Roomy b m n
+  granted d = roomy b m n (has-room d)
 
 -- ---- a length that is cut off where nothing fits any more
 
@@ -79,14 +83,14 @@ capped b m n = go (leb n 65537) refl
 
 -- ---- the answers
 
-module _ (bs : List ℕ) (b : BytecodeBuilder) (s : List ℕ) (r : Emitted) where
-  pub emitted : (n : ℕ) (after : List ℕ) → length bs ≡ n → r ≡ reserved b (length s) n → noRoom b (length s) n ≡ false → after ≡ sets s (b .len) bs → EmitsBytes false false bs b s r after
+module _ (bs : List ℕ) (b : BytecodeBuilder) (s : List ℕ) (n : ℕ) {r : Emitted} {x : BytecodeBuilder} (len : length bs ≡ n) (a : r ≡ reserved b (length s) n) where
+  pub emitted : {after : List ℕ} → r ≡ E.Done x → after ≡ sets s (b .len) bs → EmitsBytes false false bs b s r after
   unfolding emission reserved
-  emitted n after len a f e = record { answer = rw (len, f, a, f); bytes = rw (len, f) e }
+  emitted d e = let f = has-room b (length s) n a d in record { answer = rw (len, f, a, f); bytes = rw (len, f) e }
 
-  pub refused-room : (n : ℕ) → length bs ≡ n → r ≡ reserved b (length s) n → noRoom b (length s) n ≡ true → EmitsBytes false false bs b s r s
+  pub refused-room : {q : Refusal} → r ≡ E.Refused q x → EmitsBytes false false bs b s r s
   unfolding emission reserved
-  refused-room n len a f = record { answer = rw (len, f, a, f); bytes = rw (len, f) }
+  refused-room d = let f = no-room b (length s) n a d in record { answer = rw (len, f, a, f); bytes = rw (len, f) }
 
 -- the tests before it did not hold
 pub judged : (variant dimension : Bool) (bs : List ℕ) (b : BytecodeBuilder) (s : List ℕ) (r : Emitted) (after : List ℕ)

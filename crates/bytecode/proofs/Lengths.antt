@@ -1,7 +1,7 @@
 -- Document 01's total lengths, which follow from the shapes of the opcode table. Assumes nothing.
 use Prim.Native.Nat.{ℕ, _+_, _*_}
-use mathlib.Core.Path.{_≡_, refl, sym, ap, _∙_}
-use mathlib.Core.List.{List, [], _∷_, _++_, map, append-nil}
+use mathlib.Core.Path.{_≡_, refl}
+use mathlib.Core.List.{List, [], _∷_, map, append-nil}
 use lib.ListN.{length}
 use Rattle.bytecode.specs.Opcode.{shapeOf}
 use Rattle.bytecode.specs.Layout.{wordAt, sizeAs}

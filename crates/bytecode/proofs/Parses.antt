@@ -49,32 +49,24 @@ positive Hint s n e =
 
 -- ---- the lists of an instruction that was read
 
+fields-of : (sh : Shape) (op : ℕ) (s : List ℕ)
+    → (readAs sh op s .op ≡ op) × (readAs sh op s .dests ≡ words s (placesAs sh s .to) (placesAs sh s .dests)) × (readAs sh op s .sources ≡ words s (placesAs sh s .from) (placesAs sh s .sources))
+unfolding readAs placesAs
+fields-of Unknown op s = (refl, refl, refl)
+fields-of NotCarried op s = (refl, refl, refl)
+fields-of (Fixed d n p) op s = (refl, refl, refl)
+fields-of Shift op s = (refl, refl, refl)
+fields-of Many op s = (refl, refl, refl)
+fields-of Hint op s = (refl, refl, refl)
+
 pub op-of : (sh : Shape) (op : ℕ) (s : List ℕ) → readAs sh op s .op ≡ op
-unfolding readAs
-op-of Unknown op s = refl
-op-of NotCarried op s = refl
-op-of (Fixed d n p) op s = refl
-op-of Shift op s = refl
-op-of Many op s = refl
-op-of Hint op s = refl
+op-of sh op s = fields-of sh op s .0
 
 pub dests-of : (sh : Shape) (op : ℕ) (s : List ℕ) → readAs sh op s .dests ≡ words s (placesAs sh s .to) (placesAs sh s .dests)
-unfolding readAs placesAs
-dests-of Unknown op s = refl
-dests-of NotCarried op s = refl
-dests-of (Fixed d n p) op s = refl
-dests-of Shift op s = refl
-dests-of Many op s = refl
-dests-of Hint op s = refl
+dests-of sh op s = fields-of sh op s .1
 
 pub sources-of : (sh : Shape) (op : ℕ) (s : List ℕ) → readAs sh op s .sources ≡ words s (placesAs sh s .from) (placesAs sh s .sources)
-unfolding readAs placesAs
-sources-of Unknown op s = refl
-sources-of NotCarried op s = refl
-sources-of (Fixed d n p) op s = refl
-sources-of Shift op s = refl
-sources-of Many op s = refl
-sources-of Hint op s = refl
+sources-of sh op s = fields-of sh op s .2
 
 -- the registers of a whole instruction lie in the bytes
 pub places-in : (sh : Shape) (s : List ℕ) (n : ℕ) → sizeAs sh s ≡ Bytes n → n ≤ length s

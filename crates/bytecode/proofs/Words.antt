@@ -2,10 +2,7 @@
 use Prim.Native.Nat.{ℕ, suc, _+_, _*_, _≤_}
 use mathlib.Core.Path.{_≡_, refl, ap}
 use mathlib.Core.List.{List, [], _∷_, _++_}
-use mathlib.Core.Bool.{cond}
 use native.Mathlib.Omega.{arith}
-use borrow.Author.Tests.{ne-eqb}
-use lib.Dec.{eqb}
 use lib.ListN.{length, getD, List·getD-eq-default}
 use Rattle.bytecode.specs.Layout.{wordAt, words, le, les}
 
@@ -21,10 +18,6 @@ word-past s at h =
 pub length-words : (s : List ℕ) (at n : ℕ) → length (words s at n) ≡ n
 length-words s at ℕ.zero = refl
 length-words s at (suc n) = ap suc (length-words s (at + 4) n)
-
-pub first-word : (s : List ℕ) (at d : ℕ) → getD (words s at d) 0 0 ≡ cond (eqb d 0) 0 (wordAt s at)
-first-word s at ℕ.zero = refl
-first-word s at (suc d) = rw (ne-eqb (suc d) 0 (λ e. omega arith))
 
 -- ---- fields written
 

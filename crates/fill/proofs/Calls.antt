@@ -1,31 +1,26 @@
 -- What a run answers and leaves, by its verdict. Assumes nothing.
-use mathlib.Core.Path.{_≡_, refl, sym, ap, _∙_}
-use mathlib.Core.Bool.{Bool, true, false, cond, not, _&&_}
+use mathlib.Core.Path.{_≡_, ap}
+use mathlib.Core.Bool.{true, false, not, _&&_}
 use mathlib.Core.List.{List}
 use Prim.Native.Nat.{ℕ, _+_, _*_, _-_, _≤_, _<_}
 use native.Mathlib.Nat.{mul-le-mul-right, mul-le-mul-left}
 use native.Mathlib.Decide.{decLt}
 use native.Mathlib.Omega.{arith}
-use lib.ListN.{length}
 use lib.Dec.{eqb, leb, ltb}
-use borrow.Author.Tests.{leb-true, eqb-true, lt-ltb, le-ltb, lt-leb, le-leb}
+use borrow.Author.Tests.{not-false, leb-true, eqb-true, lt-ltb, le-ltb, lt-leb, le-leb}
 use Rattle.common.proofs.Bools.{both}
 use Rattle.bytecode.specs.Program.{programOf}
-use Rattle.accept.specs.Check.{Verdict, accepted, refusal, checkOf}
+use Rattle.accept.specs.Check.{accepted, refusal, checkOf}
 use Rattle.report.specs.Sizes.{maxWidth, maxCap, recordWords}
 use Rattle.report.specs.Records.{reportOf, recordsOf}
 use Rattle.report.specs.declared.StripeReport.{StripeReport}
 use Rattle.rows.specs.Column.{onStripe}
 use Rattle.fill.specs.Meaning.{runCol}
-use Rattle.fill.specs.Run.{Answer, reports, refuses, answer, Call, shapeBroken, capBroken, badShape, badCap, verdictOf, ifAccepted, lowestOf, answerOf, valuesOf, bufferOf}
+use Rattle.fill.specs.Run.{reports, refuses, answer, Call, shapeBroken, capBroken, badShape, badCap, verdictOf, lowestOf, answerOf, valuesOf, bufferOf}
 use Rattle.fill.specs.declared.Ran.{Ran}
 use Rattle.fill.specs.declared.Ran.the-variants as R
 
 -- ---- 1 and 2 exactly when
-
-not-false : (b : Bool) → not b ≡ false → b ≡ true
-not-false true e = refl
-not-false false e = sym e
 
 pub record Shape (rows width first count size : ℕ) : Type 0 where
   pub few-rows : rows ≤ 8192

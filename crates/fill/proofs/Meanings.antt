@@ -1,12 +1,11 @@
 -- Laws of the meaning: as many words as destinations; a checked program writes its rows alone; how many violations there can be. Assumes nothing.
 use mathlib.Core.Path.{_≡_, refl, sym, ap, _∙_, subst}
-use mathlib.Core.Bool.{Bool, true, false, cond}
-use mathlib.Core.List.{List, [], _∷_, _++_, map, reverse}
-use Prim.Native.Nat.{ℕ, suc, _≤_, _<_}
+use mathlib.Core.Bool.{true}
+use mathlib.Core.List.{List, [], _∷_, map}
+use Prim.Native.Nat.{ℕ, suc, _≤_}
 use native.Mathlib.Nat.{le-refl}
 use native.Mathlib.Omega.{arith}
 use lib.ListN.{length, getD, drop, length-map, length-reverse, length-append}
-use lib.Dec.{eqb}
 use borrow.Author.Tests.{eq-eqb, ne-eqb, eqb-true}
 use Rattle.common.specs.Lists.{allBelow}
 use Rattle.common.proofs.Below.{below-head, below-tail}
@@ -19,7 +18,7 @@ use Rattle.bytecode.proofs.Tables.{settle, named, opcode-named}
 use Rattle.accept.specs.Sound.{Sound, AllSound, Listed, divide, leadingZeros, mirror}
 use Rattle.rows.specs.Column.{Col, store, stores}
 use Rattle.rows.proofs.Columns.{store-there}
-use Rattle.fill.specs.Meaning.{opcodes, hints, made, nth, noted, step, runCol, violationsFrom, violations}
+use Rattle.fill.specs.Meaning.{opcodes, hints, made, noted, step, runCol, violationsFrom, violations}
 use Rattle.fill.proofs.Runs.{noted-few}
 
 -- ---- as many words as destinations
@@ -83,10 +82,22 @@ stores-keep rows (d ∷ ds) vs b col r h =
     stores-keep rows ds (drop 1 vs) (below-tail rows d ds b) (store col d (getD vs 0 0)) r h
     ∙ store-there col d (getD vs 0 0) (λ e. omega (arith, below-head rows d ds b))
 
-pub run-keeps : (rows : ℕ) (is : List Inst) → AllSound rows is → Keeps rows (runCol is)
+-- the destinations are all that it takes
+abbrev pub DestsBelow : ℕ → List Inst → Type 0
+DestsBelow rows [] = Unit {0}
+DestsBelow rows (i ∷ is) = (allBelow rows (i .dests) ≡ true) × DestsBelow rows is
+
+pub dests-keep : (rows : ℕ) (is : List Inst) → DestsBelow rows is → Keeps rows (runCol is)
 unfolding runCol
-run-keeps rows [] g col r h = refl
-run-keeps rows (i ∷ is) g col r h = run-keeps rows is (g .1) (step i col) r h ∙ stores-keep rows (i .dests) _ (g .0 .dests-below) col r h
+dests-keep rows [] g col r h = refl
+dests-keep rows (i ∷ is) g col r h = dests-keep rows is (g .1) (step i col) r h ∙ stores-keep rows (i .dests) _ (g .0) col r h
+
+sound-below : (rows : ℕ) (is : List Inst) → AllSound rows is → DestsBelow rows is
+sound-below rows [] g = tt
+sound-below rows (i ∷ is) g = (g .0 .dests-below, sound-below rows is (g .1))
+
+pub run-keeps : (rows : ℕ) (is : List Inst) → AllSound rows is → Keeps rows (runCol is)
+run-keeps rows is g = dests-keep rows is (sound-below rows is g)
 
 -- ---- a column has at most as many violations as the program has instructions
 

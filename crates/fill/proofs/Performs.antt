@@ -31,6 +31,19 @@ rows-in s e (r ∷ rs) b = (in-row s e (below-head (s .rows) r rs b), rows-in s 
 pub registers-in : (s : Stripe) {n : ℕ} → n ≡ s .rows * s .width → (i : Inst) → Sound (s .rows) i → InRows s n (i .dests) × InRows s n (i .sources)
 registers-in s e i S = (rows-in s e (i .dests) (S .dests-below), rows-in s e (i .sources) (S .sources-below))
 
+-- as the row loops ask for them, one destination or two and two sources or three; of two the second is the third as well
+pub one-of-two : {W A B C : Type 0} → W × ((A × Unit {0}) × (B × (C × Unit {0}))) → W × ((A × B) × (C × C))
+one-of-two (w, r) = (w, ((r .0 .0, r .1 .0), (r .1 .1 .0, r .1 .1 .0)))
+
+pub one-of-three : {W A B C D : Type 0} → W × ((A × Unit {0}) × (B × (C × (D × Unit {0})))) → W × ((A × B) × (C × D))
+one-of-three (w, r) = (w, ((r .0 .0, r .1 .0), (r .1 .1 .0, r .1 .1 .1 .0)))
+
+pub two-of-two : {W A B C D : Type 0} → W × ((A × (B × Unit {0})) × (C × (D × Unit {0}))) → W × ((A × B) × (C × D × D))
+two-of-two (w, r) = (w, ((r .0 .0, r .0 .1 .0), (r .1 .0, r .1 .1 .0, r .1 .1 .0)))
+
+pub two-of-three : {W A B C D E : Type 0} → W × ((A × (B × Unit {0})) × (C × (D × (E × Unit {0})))) → W × ((A × B) × (C × D × E))
+two-of-three (w, r) = (w, ((r .0 .0, r .0 .1 .0), (r .1 .0, r .1 .1 .0, r .1 .1 .1 .0)))
+
 -- ---- a shift's amount
 
 pub amount-under : (v n : ℕ) → v ≤ 7 → FittingAmount v n → n < widthOf (variantOf v)

@@ -1,23 +1,20 @@
 -- A run refuses exactly what document 01 says, and its answer is one. Assumes nothing.
 use mathlib.Core.Path.{_≡_, refl, sym, ap, _∙_, subst}
 use mathlib.Core.Logic.{_↔_}
-use mathlib.Core.Bool.{Bool, true, false, cond, not, _&&_}
-use mathlib.Core.List.{List}
-use Prim.Native.Nat.{ℕ, _+_, _*_, _≤_, _<_}
+use mathlib.Core.Bool.{Bool, true, false, _&&_}
+use Prim.Native.Nat.{ℕ, _+_, _*_, _≤_}
 use native.Mathlib.Omega.{arith}
 use lib.ListN.{length}
 use lib.Dec.{eqb, leb}
-use borrow.Author.Tests.{leb-true, leb-false, eqb-true, eqb-false, le-leb, eq-eqb}
-use Rattle.common.proofs.Bools.{both, differ}
-use Rattle.refusal.specs.Number.{numberOf}
-use Rattle.refusal.specs.declared.Refusal.{Refusal}
+use borrow.Author.Tests.{not-true, leb-false, eqb-false, le-leb, eq-eqb}
 use Rattle.refusal.proofs.Numbers.{number-names-one}
 use Rattle.bytecode.specs.Layout.{AreBytes}
-use Rattle.accept.specs.Check.{Verdict, accepted, refusal, checkOf}
+use Rattle.accept.specs.Check.{accepted, refusal, checkOf}
 use Rattle.accept.specs.Faults as program
 use Rattle.accept.proofs.Refusals as check
+use Rattle.accept.proofs.Soundness.{clash}
 use Rattle.report.specs.Sizes.{maxWidth, maxCap, recordWords}
-use Rattle.fill.specs.Run.{Answer, reports, refuses, answer, Call, shapeBroken, capBroken, badShape, badCap, verdictOf}
+use Rattle.fill.specs.Run.{answer, Call, badShape, badCap, verdictOf}
 use Rattle.fill.specs.Faults.{ShapeFault, CapFault, Refused}
 use Rattle.fill.specs.Faults as F
 use Rattle.fill.specs.declared.Ran.{Ran}
@@ -26,9 +23,14 @@ use Rattle.fill.proofs.Calls.{Shape, shape-kept, cap-kept, by-shape, by
 
 -- ---- the tests and the rules
 
-or-not : (b : Bool) → not b ≡ true → b ≡ false
-or-not true e = sym e
-or-not false e = refl
+-- a test, given its rule's absence, and given its rule
+lacking {ℓ} : {P : Type ℓ} (t : Bool) → (t ≡ true → P) → (P → ⊥) → t ≡ false
+lacking true f n = absurd (n (f refl))
+lacking false f n = refl
+
+having {ℓ} : {P : Type ℓ} (t : Bool) → (t ≡ false → P → ⊥) → P → t ≡ true
+having true f p = refl
+having false f p = absurd (f refl p)
 
 -- the first part of a conjunction that fails
 first-fails {ℓ} : {G : Type ℓ} (p q : Bool) → (p && q) ≡ false → (p ≡ false → G) → (q ≡ false → G) → G
@@ -38,7 +40,7 @@ first-fails false q e f g = f refl
 module _ (c : Call) where
   shape-fault : badShape c ≡ true → ShapeFault c
   shape-fault e =
-      first-fails (leb (c .rows) 8192) _ (or-not _ e) (λ z. F.rows (leb-false (c .rows) 8192 z)) λ e₁.
+      first-fails (leb (c .rows) 8192) _ (not-true _ e) (λ z. F.rows (leb-false (c .rows) 8192 z)) λ e₁.
       first-fails (leb (c .width) maxWidth) _ e₁ (λ z. F.width (leb-false (c .width) maxWidth z)) λ e₂.
       first-fails (eqb (length (c .values)) (c .rows * c .width)) _ e₂ (λ z. F.array (eqb-false (length (c .values)) (c .rows * c .width) z)) λ e₃.
       F.stripe (leb-false (c .first + c .count) (c .width) e₃)
@@ -54,7 +56,7 @@ module _ (c : Call) where
 
   cap-fault : badCap c ≡ true → CapFault c
   cap-fault e =
-      first-fails (leb (c .cap) maxCap) _ (or-not _ e) (λ z. F.cap (leb-false (c .cap) maxCap z)) λ e₁.
+      first-fails (leb (c .cap) maxCap) _ (not-true _ e) (λ z. F.cap (leb-false (c .cap) maxCap z)) λ e₁.
       F.buffer (eqb-false (length (c .report)) (c .cap * recordWords) e₁)
 
   no-cap-fault : badCap c ≡ false → CapFault c → ⊥
@@ -63,23 +65,6 @@ module _ (c : Call) where
       go : (c .cap ≤ maxCap) × (length (c .report) ≡ c .cap * recordWords) → CapFault c → ⊥
       go s (F.cap h) = omega (arith, s .0)
       go s (F.buffer h) = h (s .1)
-
-  -- a test, its rule, and the rule's absence
-  shape-is : (b : Bool) → badShape c ≡ b → (ShapeFault c → ⊥) → badShape c ≡ false
-  shape-is true e n = absurd (n (shape-fault e))
-  shape-is false e n = e
-
-  shape-was : (b : Bool) → badShape c ≡ b → ShapeFault c → badShape c ≡ true
-  shape-was true e f = e
-  shape-was false e f = absurd (no-shape-fault e f)
-
-  cap-is : (b : Bool) → badCap c ≡ b → (CapFault c → ⊥) → badCap c ≡ false
-  cap-is true e n = absurd (n (cap-fault e))
-  cap-is false e n = e
-
-  cap-was : (b : Bool) → badCap c ≡ b → CapFault c → badCap c ≡ true
-  cap-was true e f = e
-  cap-was false e f = absurd (no-cap-fault e f)
 
   refusal-is : (n at k o : ℕ) → refusal n at ≡ refusal k o → Refused c n at → Refused c k o
   refusal-is n at k o e r =
@@ -96,10 +81,10 @@ module _ (c : Call) where
       go false s false t = F.badProgram (no-shape-fault s) (no-cap-fault t) (check.refused-exactly (c .code) (c .rows) k at bytes .0 (sym (by-check c s t) ∙ e))
 
   so-refused : AreBytes (c .code) → (k at : ℕ) → Refused c k at → verdictOf c ≡ refusal k at
-  so-refused bytes k at (F.badShape f) = by-shape c (shape-was (badShape c) refl f)
-  so-refused bytes k at (F.badCap n f) = by-cap c (shape-is (badShape c) refl n) (cap-was (badCap c) refl f)
+  so-refused bytes k at (F.badShape f) = by-shape c (having (badShape c) no-shape-fault f)
+  so-refused bytes k at (F.badCap n f) = by-cap c (lacking (badShape c) shape-fault n) (having (badCap c) no-cap-fault f)
   so-refused bytes k at (F.badProgram n m r) =
-      by-check c (shape-is (badShape c) refl n) (cap-is (badCap c) refl m) ∙ check.refused-exactly (c .code) (c .rows) k at bytes .1 r
+      by-check c (lacking (badShape c) shape-fault n) (lacking (badCap c) cap-fault m) ∙ check.refused-exactly (c .code) (c .rows) k at bytes .1 r
 
   -- each refusal of a run is given exactly when document 01 says
   pub refused-exactly : AreBytes (c .code) → (k at : ℕ) → (verdictOf c ≡ refusal k at) ↔ Refused c k at
@@ -113,15 +98,12 @@ pub record Fit (c : Call) : Type 0 where
   pub buffer : length (c .report) ≡ c .cap * recordWords
   pub program : checkOf (c .code) (c .rows) ≡ accepted
 
-not-accepted : (n at : ℕ) → refusal n at ≡ accepted → ⊥
-not-accepted n at e = let z : _≡_ {A = ℕ} 0 1 = cc in omega arith
-
 pub accepted-fit : (c : Call) → verdictOf c ≡ accepted → Fit c
 accepted-fit c e = go (badShape c) refl (badCap c) refl
   where
     go : (b : Bool) → badShape c ≡ b → (d : Bool) → badCap c ≡ d → Fit c
-    go true s d t = absurd (not-accepted 1 0 (sym (by-shape c s) ∙ e))
-    go false s true t = absurd (not-accepted 2 0 (sym (by-cap c s t) ∙ e))
+    go true s d t = absurd (clash 1 0 (sym (by-shape c s) ∙ e))
+    go false s true t = absurd (clash 2 0 (sym (by-cap c s t) ∙ e))
     go false s false t =
         let k = cap-kept (c .cap) (length (c .report)) t in
         record { shape = shape-kept (c .rows) (c .width) (c .first) (c .count) (length (c .values)) s; few = k .0; buffer = k .1; program = sym (by-check c s t) ∙ e }

@@ -2,12 +2,11 @@
 use mathlib.Core.Path.{_≡_, refl, sym, ap, _∙_, subst, fun-ext}
 use mathlib.Core.Bool.{Bool, true, false, cond}
 use mathlib.Core.List.{List, [], _∷_, _++_, append-nil}
-use Prim.Native.Nat.{ℕ, _+_, _*_, _<_, _≤_}
+use Prim.Native.Nat.{ℕ, _+_, _*_, _<_}
 use native.Mathlib.Nat.{add-assoc}
 use native.Mathlib.Decide.{ℕ-discrete, decLt}
 use native.Mathlib.Omega.{arith}
-use lib.ListN.{length, getD}
-use lib.Dec.{eqb, ltb}
+use lib.ListN.{getD}
 use borrow.Author.Tests.{eq-eqb, ne-eqb, lt-ltb, le-ltb}
 use Rattle.common.specs.Lists.{allBelow}
 use Rattle.common.proofs.Below.{below-head, below-tail}
@@ -29,59 +28,45 @@ use Rattle.fill.specs.Working.{claimOf, claimed, Reads, columnOf, First,
 
 -- ---- what an instruction claims
 
-pub claim-notes : (bytes : List ℕ) (n : ℕ) (i : Instruction) (col : Col) → noted n (inst bytes i) col ≡ claimed n (claimOf i) col
+one-below : (rows v : ℕ) → allBelow rows (v ∷ []) ≡ true → (v < rows) × (v < rows) × (v < rows)
+one-below rows v e = let h = below-head rows v [] e in (h, h, h)
+
+two-below : (rows a b : ℕ) → allBelow rows (a ∷ b ∷ []) ≡ true → (a < rows) × (a < rows) × (b < rows)
+two-below rows a b e = let h = below-head rows a (b ∷ []) e in (h, h, below-head rows b [] (below-tail rows a (b ∷ []) e))
+
+-- it is what its meaning notes, and it reads rows
+claims : (bytes : List ℕ) (i : Instruction)
+    → ((n : ℕ) (col : Col) → noted n (inst bytes i) col ≡ claimed n (claimOf i) col) × ((rows : ℕ) → Sound rows (inst bytes i) → Reads rows (claimOf i))
 unfolding inst
-claim-notes bytes n (I.Band a b c) col = refl
-claim-notes bytes n (I.Bor a b c) col = refl
-claim-notes bytes n (I.Bxor a b c) col = refl
-claim-notes bytes n (I.Select a b c d) col = refl
-claim-notes bytes n (I.BxorMulti a b) col = refl
-claim-notes bytes n (I.Fax a b c d) col = refl
-claim-notes bytes n (I.Shift a b c d) col = refl
-claim-notes bytes n (I.IaddCinCout a b c d e) col = refl
-claim-notes bytes n (I.IaddCarry a b c) col = refl
-claim-notes bytes n (I.IsubBinBout a b c d e) col = refl
-claim-notes bytes n (I.Imul a b c d) col = refl
-claim-notes bytes n (I.Iadd32CinCout a b c d e) col = refl
-claim-notes bytes n (I.Iadd32Cout a b c d) col = refl
-claim-notes bytes n (I.Hint a b c d) col = refl
-claim-notes bytes n (I.AssertEq a b c) col = refl
-claim-notes bytes n (I.AssertEqCond a b c d) col = refl
-claim-notes bytes n (I.AssertZero a b) col = refl
-claim-notes bytes n (I.AssertNonZero a b) col = refl
-claim-notes bytes n (I.AssertFalse a b) col = refl
-claim-notes bytes n (I.AssertTrue a b) col = refl
+claims bytes (I.Band a b c) = (λ n col. refl, λ rows s. tt)
+claims bytes (I.Bor a b c) = (λ n col. refl, λ rows s. tt)
+claims bytes (I.Bxor a b c) = (λ n col. refl, λ rows s. tt)
+claims bytes (I.Select a b c d) = (λ n col. refl, λ rows s. tt)
+claims bytes (I.BxorMulti a b) = (λ n col. refl, λ rows s. tt)
+claims bytes (I.Fax a b c d) = (λ n col. refl, λ rows s. tt)
+claims bytes (I.Shift a b c d) = (λ n col. refl, λ rows s. tt)
+claims bytes (I.IaddCinCout a b c d e) = (λ n col. refl, λ rows s. tt)
+claims bytes (I.IaddCarry a b c) = (λ n col. refl, λ rows s. tt)
+claims bytes (I.IsubBinBout a b c d e) = (λ n col. refl, λ rows s. tt)
+claims bytes (I.Imul a b c d) = (λ n col. refl, λ rows s. tt)
+claims bytes (I.Iadd32CinCout a b c d e) = (λ n col. refl, λ rows s. tt)
+claims bytes (I.Iadd32Cout a b c d) = (λ n col. refl, λ rows s. tt)
+claims bytes (I.Hint a b c d) = (λ n col. refl, λ rows s. tt)
+claims bytes (I.AssertEq a b p) = (λ n col. refl, λ rows s. two-below rows a b (s .sources-below))
+claims bytes (I.AssertEqCond c a b p) = (
+  λ n col. refl,
+  λ rows s. let h = two-below rows a b (below-tail rows c (a ∷ b ∷ []) (s .sources-below)) in (below-head rows c (a ∷ b ∷ []) (s .sources-below), h .1, h .2),
+)
+claims bytes (I.AssertZero v p) = (λ n col. refl, λ rows s. one-below rows v (s .sources-below))
+claims bytes (I.AssertNonZero v p) = (λ n col. refl, λ rows s. one-below rows v (s .sources-below))
+claims bytes (I.AssertFalse v p) = (λ n col. refl, λ rows s. one-below rows v (s .sources-below))
+claims bytes (I.AssertTrue v p) = (λ n col. refl, λ rows s. one-below rows v (s .sources-below))
 
-one-below : (rows a : ℕ) → allBelow rows (a ∷ []) ≡ true → a < rows
-one-below rows a e = below-head rows a [] e
-
-two-below : (rows a b : ℕ) → allBelow rows (a ∷ b ∷ []) ≡ true → (a < rows) × (b < rows)
-two-below rows a b e = (below-head rows a (b ∷ []) e, one-below rows b (below-tail rows a (b ∷ []) e))
+pub claim-notes : (bytes : List ℕ) (n : ℕ) (i : Instruction) (col : Col) → noted n (inst bytes i) col ≡ claimed n (claimOf i) col
+claim-notes bytes n i col = claims bytes i .0 n col
 
 pub claim-reads : (bytes : List ℕ) (rows : ℕ) (i : Instruction) → Sound rows (inst bytes i) → Reads rows (claimOf i)
-unfolding inst
-claim-reads bytes rows (I.Band a b c) s = tt
-claim-reads bytes rows (I.Bor a b c) s = tt
-claim-reads bytes rows (I.Bxor a b c) s = tt
-claim-reads bytes rows (I.Select a b c d) s = tt
-claim-reads bytes rows (I.BxorMulti a b) s = tt
-claim-reads bytes rows (I.Fax a b c d) s = tt
-claim-reads bytes rows (I.Shift a b c d) s = tt
-claim-reads bytes rows (I.IaddCinCout a b c d e) s = tt
-claim-reads bytes rows (I.IaddCarry a b c) s = tt
-claim-reads bytes rows (I.IsubBinBout a b c d e) s = tt
-claim-reads bytes rows (I.Imul a b c d) s = tt
-claim-reads bytes rows (I.Iadd32CinCout a b c d e) s = tt
-claim-reads bytes rows (I.Iadd32Cout a b c d) s = tt
-claim-reads bytes rows (I.Hint a b c d) s = tt
-claim-reads bytes rows (I.AssertEq a b p) s = let h = two-below rows a b (s .sources-below) in (h .0, h .0, h .1)
-claim-reads bytes rows (I.AssertEqCond c a b p) s =
-    let h = two-below rows a b (below-tail rows c (a ∷ b ∷ []) (s .sources-below)) in
-    (below-head rows c (a ∷ b ∷ []) (s .sources-below), h .0, h .1)
-claim-reads bytes rows (I.AssertZero v p) s = let h = one-below rows v (s .sources-below) in (h, h, h)
-claim-reads bytes rows (I.AssertNonZero v p) s = let h = one-below rows v (s .sources-below) in (h, h, h)
-claim-reads bytes rows (I.AssertFalse v p) s = let h = one-below rows v (s .sources-below) in (h, h, h)
-claim-reads bytes rows (I.AssertTrue v p) s = let h = one-below rows v (s .sources-below) in (h, h, h)
+claim-reads bytes rows i = claims bytes i .1 rows
 
 -- ---- a scan
 

@@ -85,7 +85,7 @@ turned-as G p e = record { size = p .size; here = p .here ∙ e; other = p .othe
 
 -- ---- columns one after the other
 
-pub done-none : (F : Col → Col) (s : Stripe) (xs : List ℕ) → Done F s 0 xs xs
+done-none : (F : Col → Col) (s : Stripe) (xs : List ℕ) → Done F s 0 xs xs
 done-none F s xs = record { size = refl; inside = λ k h. absurd (not-suc-le-zero h); outside = λ c h o. refl }
 
 done-more : {F : Col → Col} {s : Stripe} {n : ℕ} {xs ys zs : List ℕ} → s .first + n < s .width
@@ -127,19 +127,29 @@ at-columns s n size ys [] room = refl
 at-columns s n size ys (r ∷ rs) room =
     ap₂ _∷_ (rw add-assoc (sym (column-at (s .width) ys (s .first + n) (room .0 .0)))) (at-columns s n size ys rs (room .1))
 
+-- the invariant of the row loops: n turns are done
+abbrev pub Upto : (Col → Col) → Stripe → ℕ → List ℕ → List ℕ → Type 0
+Upto F s n xs ys = (n ≤ s .count) × Done F s n xs ys
+
+pub upto-none : (F : Col → Col) (s : Stripe) (xs : List ℕ) → Upto F s 0 xs xs
+upto-none F s xs = (omega arith, done-none F s xs)
+
 -- the one law of the row loops: registers ds take the words that f makes of registers ss
-pub turn : (f : List ℕ → List ℕ) (ds ss vs : List ℕ) {s : Stripe} {n : ℕ} {xs ys : List ℕ} → s .first + n < s .width → InRows s (length xs) ds → InRows s (length xs) ss
+pub turn : (f : List ℕ → List ℕ) (ds ss vs : List ℕ) {s : Stripe} {n : ℕ} {xs ys : List ℕ} → Within s → n < s .count → InRows s (length xs) ds → InRows s (length xs) ss
     → vs ≡ f (map (λ r. getD ys (r * s .width + s .first + n) 0) ss)
-    → Done (λ col. stores ds (f (map col ss)) col) s n xs ys
-    → Done (λ col. stores ds (f (map col ss)) col) s (n + 1) xs (puts s n ds vs ys)
-turn f ds ss vs {s} {n} {xs} {ys} h room room′ p done =
-    done-more h done
-    (turned-as (λ col. stores ds (f (map col ss)) col) (turned-puts s n h ds vs ys (rw (done .size) room))
-    (ap (λ ws. stores ds ws (column (s .rows) (s .width) ys (s .first + n))) (p ∙ ap f (at-columns s n (length xs) ys ss room′))))
+    → Upto (λ col. stores ds (f (map col ss)) col) s n xs ys
+    → Upto (λ col. stores ds (f (map col ss)) col) s (n + 1) xs (puts s n ds vs ys)
+turn f ds ss vs {s} {n} {xs} {ys} w l room room′ p (_, done) =
+    let h : s .first + n < s .width = omega arith in (
+      omega arith,
+      done-more h done
+          (turned-as (λ col. stores ds (f (map col ss)) col) (turned-puts s n h ds vs ys (rw (done .size) room))
+          (ap (λ ws. stores ds ws (column (s .rows) (s .width) ys (s .first + n))) (p ∙ ap f (at-columns s n (length xs) ys ss room′)))),
+    )
 
 -- a loop at its end
-pub done-all : {F : Col → Col} {s : Stripe} {n : ℕ} {xs ys : List ℕ} → n ≡ s .count → Done F s n xs ys → Across F s xs ys
-done-all {F} {s} {n} {xs} {ys} e d = subst (λ m. Done F s m xs ys) e d
+pub upto-all : {F : Col → Col} {s : Stripe} {n : ℕ} {xs ys : List ℕ} → s .count ≤ n → Upto F s n xs ys → Across F s xs ys
+upto-all {F} {s} {n} {xs} {ys} h u = let e : n ≡ s .count = omega arith in subst (λ m. Done F s m xs ys) e (u .1)
 
 -- ---- functions run across one after the other
 

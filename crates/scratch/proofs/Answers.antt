@@ -11,7 +11,7 @@ use Rattle.scratch.specs.declared.Allocation.the-variants.{Sized, Refuse
 use Rattle.scratch.specs.Gates.{gatesOf, scratch, among, peak}
 use Rattle.scratch.specs.Policies.{Pool, pooled, perWire}
 use Rattle.scratch.specs.Accept.{accepted}
-use Rattle.scratch.specs.Answer.{Told, told, answerOf, slotsAfter, slotsOf, lengthOf}
+use Rattle.scratch.specs.Answer.{told, answerOf, slotsAfter, slotsOf, lengthOf}
 use Rattle.scratch.proofs.Cut.{gates-length}
 
 module _ (wires : ℕ) (ends mentions marks slots : List ℕ) (policy : Policy) where

@@ -1,22 +1,20 @@
 -- Flat gate ends against the list of gates, and what an accepted list tells. Assumes nothing.
 use mathlib.Core.Path.{_≡_, refl, sym, ap}
-use mathlib.Core.Bool.{Bool, true, false, _&&_, _||_, or-true, true≢false}
+use mathlib.Core.Bool.{Bool, true, false, _||_, or-true, true≢false}
 use mathlib.Core.List.{List, [], _∷_}
 use Prim.Native.Nat.{ℕ, zero, suc, _+_, _≤_, _<_}
 use native.Mathlib.Numerals.{add-one}
 use native.Mathlib.Omega.{arith}
 use lib.ListN.{length, getD, take, drop}
 use lib.Seq.{slice}
-use lib.Dec.{eqb, leb, ltb}
-use borrow.Author.Tests.{eqb-true, leb-true, ltb-true}
+use lib.Dec.{eqb, leb}
+use borrow.Author.Tests.{eqb-true, leb-true}
 use Rattle.common.specs.Lists.{member, allBelow}
+use Rattle.common.proofs.Bools.{both}
+use Rattle.common.proofs.Below.{below-at, member-at}
 use Rattle.scratch.specs.Gates.{gatesFrom, gatesOf}
 use Rattle.scratch.specs.Accept.{mostWires, mostGates, mostMentions, closes, accepted}
 use Rattle.scratch.specs.Policies.{unslotted}
-
-pub both : (a b : Bool) → (a && b) ≡ true → (a ≡ true) × (b ≡ true)
-both true b e = (refl, e)
-both false b e = absurd (true≢false (sym e))
 
 -- where gate k begins; past the last gate, the last gate end
 abbrev pub start : ℕ → List ℕ → ℕ → ℕ
@@ -56,11 +54,6 @@ close-last from count [] h = eqb-true from count h
 close-last from count (end ∷ []) h = eqb-true end count (both (leb from end) (closes end count []) h .1)
 close-last from count (end ∷ next ∷ ends) h = close-last end count (next ∷ ends) (both (leb from end) (closes end count (next ∷ ends)) h .1)
 
-pub below-at : (n : ℕ) (xs : List ℕ) (i : ℕ) → allBelow n xs ≡ true → i < length xs → getD xs i 0 < n
-below-at n [] i h l = absurd (omega arith)
-below-at n (x ∷ xs) zero h l = ltb-true x n (both (ltb x n) (allBelow n xs) h .0)
-below-at n (x ∷ xs) (suc i) h l = below-at n xs i (both (ltb x n) (allBelow n xs) h .1) (omega arith)
-
 -- what a part of a list holds, the list holds
 pub member-drop : (k : ℕ) (ws : List ℕ) (x : ℕ) → member x (drop k ws) ≡ true → member x ws ≡ true
 member-drop zero ws x h = h
@@ -77,12 +70,7 @@ member-take (suc k) (w ∷ ws) x h = go (eqb w x) h (member-take k ws x)
     go false h f = f h
 
 pub member-below : (n : ℕ) (ws : List ℕ) (x : ℕ) → allBelow n ws ≡ true → member x ws ≡ true → x < n
-member-below n [] x h m = absurd (true≢false (sym m))
-member-below n (w ∷ ws) x h m = go (eqb w x) refl m (λ m. member-below n ws x (both (ltb w n) (allBelow n ws) h .1) m)
-  where
-    go : (b : Bool) → eqb w x ≡ b → (b || member x ws) ≡ true → (member x ws ≡ true → x < n) → x < n
-    go true e m f = omega (arith, eqb-true w x e, ltb-true w n (both (ltb w n) (allBelow n ws) h .0))
-    go false e m f = f m
+member-below n ws x h m = let (k, l, e) = member-at x ws m in omega (arith, below-at n ws k h l)
 
 -- an accepted list
 pub record Good (wires : ℕ) (ends mentions marks slots : List ℕ) : Type 0 where

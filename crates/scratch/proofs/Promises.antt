@@ -10,17 +10,14 @@ use lib.ListN.{length, getD}
 use lib.Seq.{take-length}
 use lib.Dec.{eqb, ltb}
 use borrow.Author.Tests.{eqb-true, eq-eqb, not-true, ltb-true, ltb-false}
-use Rattle.refusal.specs.Number.{numberOf}
-use Rattle.refusal.specs.declared.Refusal.{Refusal}
-use Rattle.refusal.specs.declared.Refusal.the-variants.{BadShape, BadCap, TooLong, UnknownOpcode, NotCarried, Truncated, BadShift, BadHint, BadRegister, Overlap, NoRoom, SamePosition, BadPosition, BadGates}
-use Rattle.refusal.proofs.Numbers.{number-names-one}
+use Rattle.refusal.proofs.Numbers.{number-names-one, number-range}
 use Rattle.scratch.specs.declared.Policy.{Policy}
 use Rattle.scratch.specs.declared.Policy.the-variants.{PerWire, Pooled}
 use Rattle.scratch.specs.declared.Allocation.{Allocation}
 use Rattle.scratch.specs.declared.Allocation.the-variants.{Sized, Refused}
 use Rattle.scratch.specs.Gates.{gatesOf, scratch, mentioned, among, peakTo, peak}
 use Rattle.scratch.specs.Accept.{mostWires, accepted, Broken}
-use Rattle.scratch.specs.Policies.{Pool, unslotted}
+use Rattle.scratch.specs.Policies.{unslotted}
 use Rattle.scratch.specs.Answer.{Told, told, slotsOf, answerOf, slotsAfter}
 use Rattle.scratch.specs.Assignments.{Apart, slotsTo}
 use Rattle.scratch.proofs.Count.{count, length-among, count-le, count-below}
@@ -29,28 +26,11 @@ use Rattle.scratch.proofs.Refusals.{refused, broken}
 use Rattle.scratch.proofs.per_wire.Numbers.{per-wire-slot, per-wire-length}
 use Rattle.scratch.proofs.pooled.EachGate.{fair, size-is, apart, taken-is}
 
--- a refusal has a number that no accepted answer has
-positive : (why : Refusal) → 0 < numberOf why
-positive BadShape = omega arith
-positive BadCap = omega arith
-positive TooLong = omega arith
-positive UnknownOpcode = omega arith
-positive NotCarried = omega arith
-positive Truncated = omega arith
-positive BadShift = omega arith
-positive BadHint = omega arith
-positive BadRegister = omega arith
-positive Overlap = omega arith
-positive NoRoom = omega arith
-positive SamePosition = omega arith
-positive BadPosition = omega arith
-positive BadGates = omega arith
-
--- the number and the values tell the answer, so the contract leaves one
+-- the number, which no refusal shares with an accepted answer, and the values tell the answer, so the contract leaves one
 pub told-once : (r s : Allocation) → told r ≡ told s → r ≡ s
 told-once (Sized l p) (Sized l′ p′) e = ap₂ Sized (ap (λ (t : Told). t .length) e) (ap (λ (t : Told). t .peak) e)
-told-once (Sized l p) (Refused y) e = absurd (omega (arith, positive y, ap (λ (t : Told). t .number) e))
-told-once (Refused x) (Sized l p) e = absurd (omega (arith, positive x, ap (λ (t : Told). t .number) e))
+told-once (Sized l p) (Refused y) e = absurd (omega (arith, number-range y, ap (λ (t : Told). t .number) e))
+told-once (Refused x) (Sized l p) e = absurd (omega (arith, number-range x, ap (λ (t : Told). t .number) e))
 told-once (Refused x) (Refused y) e = ap Refused (number-names-one x y (ap (λ (t : Told). t .number) e))
 
 pub answer-once : (wires : ℕ) (ends mentions marks slots : List ℕ) (policy : Policy) (r s : Allocation) → told r ≡ answerOf wires ends mentions marks slots policy → told s ≡ answerOf wires ends mentions marks slots policy → r ≡ s

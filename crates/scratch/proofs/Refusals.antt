@@ -6,11 +6,12 @@ use mathlib.Core.Logic.{_⊎_, inl, inr}
 use Prim.Native.Nat.{ℕ, zero, suc, _≤_, _<_}
 use native.Mathlib.Omega.{arith}
 use lib.ListN.{length, getD}
-use lib.Dec.{eqb, leb, ltb}
-use borrow.Author.Tests.{eqb-false, leb-false, ltb-false, le-leb, eq-eqb}
+use lib.Dec.{eqb, leb}
+use borrow.Author.Tests.{eqb-false, leb-false, le-leb, eq-eqb}
 use Rattle.common.specs.Lists.{allBelow}
 use Rattle.scratch.specs.Accept.{mostWires, mostGates, mostMentions, closes, accepted, Broken}
-use Rattle.scratch.proofs.Cut.{start, close-at, close-last, below-at, Good, good}
+use Rattle.common.proofs.Below.{below-at, member-at, not-below}
+use Rattle.scratch.proofs.Cut.{start, close-at, close-last, Good, good}
 
 -- ends that do not close: one falls, or the last is not the count
 unclosed : (from count : ℕ) (ends : List ℕ) → closes from count ends ≡ false
@@ -36,14 +37,6 @@ unclosed from count (end ∷ ends) h = go (leb from end) refl h (unclosed end co
         → ((k : ℕ) × (k < length (end ∷ ends)) × (getD (end ∷ ends) k 0 < start from (end ∷ ends) k)) ⊎ (start from (end ∷ ends) (length (end ∷ ends)) ≡ count → ⊥)
     go true e h f = later (f h)
     go false e h f = inl (0, omega arith, leb-false from end e)
-
-not-below : (n : ℕ) (ws : List ℕ) → allBelow n ws ≡ false → (i : ℕ) × (i < length ws) × (n ≤ getD ws i 0)
-not-below n [] h = absurd (true≢false h)
-not-below n (w ∷ ws) h = go (ltb w n) refl h (not-below n ws)
-  where
-    go : (b : Bool) → ltb w n ≡ b → (b && allBelow n ws) ≡ false → (allBelow n ws ≡ false → (i : ℕ) × (i < length ws) × (n ≤ getD ws i 0)) → (i : ℕ) × (i < length (w ∷ ws)) × (n ≤ getD (w ∷ ws) i 0)
-    go true e h f = let (i, l, g) = f h in (suc i, omega arith, g)
-    go false e h f = (0, omega arith, ltb-false w n e)
 
 module _ (wires : ℕ) (ends mentions marks slots : List ℕ) where
   judge : (a b c d e f g : Bool) → leb wires mostWires ≡ a → leb (length ends) mostGates ≡ b → leb (length mentions) mostMentions ≡ c → closes 0 (length mentions) ends ≡ d
@@ -88,7 +81,10 @@ module _ (wires : ℕ) (ends mentions marks slots : List ℕ) where
       at (inr f) = elsewhere (length ends) refl f
 
   pub wire-broken : allBelow wires mentions ≡ false → Broken wires ends mentions marks slots
-  wire-broken h = let (i, l, q) = not-below wires mentions h in Broken.unknownWire i l q
+  wire-broken h =
+      let (x, m, q) = not-below wires mentions h in
+      let (i, l, e) = member-at x mentions m in
+      Broken.unknownWire i l (omega arith)
 
   -- what passes all tests but the last is judged by it
   pub last-judges : wires ≤ mostWires → length ends ≤ mostGates → length mentions ≤ mostMentions → closes 0 (length mentions) ends ≡ true → allBelow wires mentions ≡ true → length marks ≡ wires

@@ -1,14 +1,15 @@
+-- `accept::amount_over` meets its contract: an opcode other than the shift's has no amount. Assumes nothing.
 use borrow.Author.Tests.{eq-eqb, ne-eqb}
 use borrow.Author.Needs.{needs}
 use Rattle.accept.proofs.amount_over.Statement.{statement}
 use Rattle.accept.proofs.amount_over.Tie as tie
 
-returns : tie.Need-returns
-returns c = rw (eq-eqb _ _ (c .before .before .before .if1 .taken), c .bad-amount .ensures, c .before .byte2 .ensures, c .before .before .byte .ensures)
-
-returns-2 : tie.Need-returns-2
-returns-2 c = rw (ne-eqb _ _ (c .if1 .left))
-
 pub amount-over-spec : {M : Type 1} → statement M
 amount-over-spec =
-    tie.close (tie.spec (λ c κs. search needs) (λ c κs. search needs) (λ c κs. search needs) returns returns-2)
+    tie.close
+    (tie.spec
+    (λ c κs. search needs)
+    (λ c κs. search needs)
+    (λ c κs. search needs)
+    (λ c. rw (eq-eqb _ _ (c .before .before .before .if1 .taken), c .bad-amount .ensures, c .before .byte2 .ensures, c .before .before .byte .ensures))
+    (λ c. rw (ne-eqb _ _ (c .if1 .left))))

@@ -1,3 +1,4 @@
+-- `accept::judge` meets its contract: the tests in the refusals' order. Assumes nothing.
 use mathlib.Core.Path.{sym, _∙_}
 use denote.Ref.{now}
 use lib.ListN.{getD}

@@ -1,3 +1,4 @@
+-- `accept::walk` meets its contract: what is left of the code decides. Assumes nothing.
 use Prim.Native.Nat.{ℕ, _+_, _-_, _≤_, _<_}
 use mathlib.Core.List.{List}
 use mathlib.Core.Path.{_≡_, refl, sym, ap, _∙_}
@@ -80,12 +81,6 @@ module _ (c : tie.After-r2 Inv-loop μ-loop) where
   refused-there : judged (rows (c .before .before .before .before .before .before)) (i (c .before .before .before .before)) ≡ refusal (numberOf (c .r2 .given .0 .0)) (c .r2 .given .0 .1 .0)
   refused-there = sym (judged-here (c .before .before)) ∙ ap verdict (c .r2 .given .1)
 
-loop-holds : tie.Need-loop-holds Inv-loop μ-loop
-loop-holds c = (search needs, (length (now (c .before .args .code)), omega arith, refl))
-
-add-t15 : tie.Need-add-t15 Inv-loop μ-loop
-add-t15 c = omega (arith, refused-at _ _ _ (refused-here (c .before)))
-
 returns : tie.Need-returns Inv-loop μ-loop
 returns c =
     let d = c .before .before .before in
@@ -98,21 +93,12 @@ judge-requires c κs =
     let r = whole-read _ _ _ (whole-here (c .before)) in
     rw (part-rest (s d) (at d)) (record { bytes = n (c .before); size = r .size; within = r .within })
 
-add-t17 : tie.Need-add-t17 Inv-loop μ-loop
-add-t17 c = omega (arith, judged-at _ _ _ _ (refused-there (c .before)))
-
 returns-2 : tie.Need-returns-2 Inv-loop μ-loop
 returns-2 c =
     let j = c .before .before .before in
     let d = j .before .before .before .before in
     let k = d .before .before .before .loop .inv .1 in
     sym (k .2 ∙ walk-judged (rows d) (rest d) (at d) (k .0) (i (j .before .before)) (n (j .before .before)) _ _ (omega arith) (more d) (whole-here (j .before .before)) (refused-there (c .before)))
-
-add-at : tie.Need-add-at Inv-loop μ-loop
-add-at c = omega (arith, within (c .before .before .before .before))
-
-loop-less : tie.Need-loop-less Inv-loop μ-loop
-loop-less c = omega (arith, within (c .before .before .before .before))
 
 loop-again : tie.Need-loop-again Inv-loop μ-loop
 loop-again c =
@@ -141,21 +127,21 @@ walk-spec =
     (tie.spec
     Inv-loop
     μ-loop
-    loop-holds
+    (λ c. (search needs, (length (now (c .before .args .code)), omega arith, refl)))
     (λ c. search needs)
     (λ c. search needs)
     (λ c. search needs)
     (λ c κs. search needs)
     (λ c. search needs)
-    add-t15
+    (λ c. omega (arith, refused-at _ _ _ (refused-here (c .before))))
     returns
     (λ c. search needs)
     judge-requires
     (λ c. search needs)
-    add-t17
+    (λ c. omega (arith, judged-at _ _ _ _ (refused-there (c .before))))
     returns-2
     (λ c. search needs)
-    add-at
-    loop-less
+    (λ c. omega (arith, within (c .before .before .before .before)))
+    (λ c. omega (arith, within (c .before .before .before .before)))
     loop-again
     returns-3)

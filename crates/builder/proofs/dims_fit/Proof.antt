@@ -1,3 +1,4 @@
+-- `builder::dims_fit` meets its contract: what is left of the dimensions decides. Assumes nothing.
 use Prim.Native.Nat.{_≤_, _-_}
 use mathlib.Core.Path.{_≡_, refl, sym, _∙_}
 use borrow.Author.Needs.{needs}
@@ -14,9 +15,6 @@ Inv-loop dims i₀ i = (i ≤ length dims) × (allBelow 4294967296 dims ≡ allB
 abbrev μ-loop : tie.MeasureT-loop
 μ-loop dims i₀ i = length dims - i
 
-loop-holds : tie.Need-loop-holds Inv-loop μ-loop
-loop-holds c = (search needs, refl)
-
 returns : tie.Need-returns Inv-loop μ-loop
 returns c =
     let l = c .before .before .before in
@@ -27,20 +25,17 @@ loop-again c =
     let l = c .before .before .before in
     (search needs, l .loop .inv .1 ∙ fit-next (now (l .before .args .dims)) (l .loop .i) (c .before .before .loop-test .taken) (c .if1 .left))
 
-returns-2 : tie.Need-returns-2 Inv-loop μ-loop
-returns-2 c = sym (c .before .loop .inv .1 ∙ fit-end (now (c .before .before .args .dims)) (c .before .loop .i) (c .loop-test .left))
-
 pub dims-fit-spec : {M : Type 1} → statement M
 dims-fit-spec =
     tie.close
     (tie.spec
     Inv-loop
     μ-loop
-    loop-holds
+    (λ c. (search needs, refl))
     (λ c. search needs)
     (λ c. search needs)
     returns
     (λ c. search needs)
     (λ c. search needs)
     loop-again
-    returns-2)
+    (λ c. sym (c .before .loop .inv .1 ∙ fit-end (now (c .before .before .args .dims)) (c .before .loop .i) (c .loop-test .left))))

@@ -1,13 +1,13 @@
+-- `gussetglen::batch_in` meets its contract. Assumes nothing.
 use borrow.Author.Needs.{needs}
 use borrow.Author.Tests.{eq-eqb, ne-eqb}
 use Rattle.gussetglen.proofs.batch_in.Statement.{statement}
 use Rattle.gussetglen.proofs.batch_in.Tie as tie
 
-returns : tie.Need-returns
-returns c = rw (eq-eqb _ _ (c .if1 .taken))
-
-returns-2 : tie.Need-returns-2
-returns-2 c = rw (ne-eqb _ _ (c .before .if1 .left), c .in-batch .ensures)
-
 pub batch-in-spec : {M : Type 1} → statement M
-batch-in-spec = tie.close (tie.spec returns (λ c κs. search needs) returns-2)
+batch-in-spec =
+    tie.close
+    (tie.spec
+    (λ c. rw (eq-eqb _ _ (c .if1 .taken)))
+    (λ c κs. search needs)
+    (λ c. rw (ne-eqb _ _ (c .before .if1 .left), c .in-batch .ensures)))

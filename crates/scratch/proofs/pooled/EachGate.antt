@@ -15,7 +15,7 @@ use Rattle.scratch.specs.Gates.{among, mentioned, scratch, spans, lastAt
 use Rattle.scratch.specs.Assignments.{Apart, slotsTo}
 use Rattle.scratch.specs.Policies.{unslotted, Pool, takes, meets, meetAll, dying, pooled}
 use Rattle.scratch.proofs.Count.{count, tally, length-among, count-none, count-ext, count-all, count-two, count-one-le, distinct-count, image-of, of-image}
-use Rattle.scratch.proofs.Cut.{both}
+use Rattle.common.proofs.Bools.{both}
 use Rattle.scratch.proofs.pooled.Fair.{Fair, act, all-met, Grows, all-grow, given, below}
 
 pub mentioned-append : (gates hs : List (List ℕ)) (w : ℕ) → mentioned (gates ++ hs) w ≡ (mentioned gates w || mentioned hs w)

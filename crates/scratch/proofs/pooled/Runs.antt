@@ -13,7 +13,8 @@ use Rattle.scratch.specs.Gates.{gatesOf, scratch, lastAt, alive, peakTo,
 use Rattle.scratch.specs.Accept.{accepted}
 use Rattle.scratch.specs.Policies.{unslotted, Pool, meetAll, giveAll, gives, dying, pooled}
 use Rattle.scratch.specs.Working.{stack, poolOf, chain, Within}
-use Rattle.scratch.proofs.Cut.{Good, good, small, inside, close-at, below-at, start-next, start, gates-length, gate-at}
+use Rattle.common.proofs.Below.{below-at}
+use Rattle.scratch.proofs.Cut.{Good, good, small, inside, close-at, start-next, start, gates-length, gate-at}
 use Rattle.scratch.proofs.deaths.Chains.{among-from, length-chain}
 use Rattle.scratch.proofs.pooled.EachGate.{free-small, living-slots}
 

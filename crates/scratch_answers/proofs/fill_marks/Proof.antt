@@ -1,7 +1,7 @@
+-- `scratch_answers::fill_marks` meets its contract: the loop ends, and what is lent keeps its length. Assumes nothing.
 use Prim.Native.Nat.{_≤_, _-_}
 use mathlib.Core.Path.{_≡_}
 use borrow.Author.Needs.{needs}
-use native.Mathlib.Omega.{arith}
 use lib.ListN.{length}
 use Rattle.scratch_answers.proofs.fill_marks.Statement.{statement}
 use Rattle.scratch_answers.proofs.fill_marks.Tie as tie

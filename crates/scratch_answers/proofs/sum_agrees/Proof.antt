@@ -1,6 +1,6 @@
+-- `scratch_answers::sum_agrees` meets its contract: the loop ends. Assumes nothing.
 use Prim.Native.Nat.{_≤_, _-_}
 use borrow.Author.Needs.{needs}
-use native.Mathlib.Omega.{arith}
 use Rattle.scratch_answers.proofs.sum_agrees.Statement.{statement}
 use Rattle.scratch_answers.proofs.sum_agrees.Tie as tie
 

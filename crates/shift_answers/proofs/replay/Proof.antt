@@ -1,7 +1,6 @@
--- The loop ends: its turns fall. What is lent keeps its length.
+-- `shift_answers::replay` meets its contract: the loop ends, since its turns fall, and what is lent keeps its length. Assumes nothing.
 use mathlib.Core.Path.{_≡_}
 use borrow.Author.Needs.{needs}
-use native.Mathlib.Omega.{arith}
 use lib.ListN.{length}
 use Rattle.shift_answers.proofs.replay.Statement.{statement}
 use Rattle.shift_answers.proofs.replay.Tie as tie

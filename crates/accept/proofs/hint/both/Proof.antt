@@ -1,3 +1,4 @@
+-- `accept::hint::both` meets its contract. Assumes nothing.
 use borrow.Author.Tests.{eq-eqb, ne-eqb}
 use Rattle.accept.proofs.hint.both.Statement.{statement}
 use Rattle.accept.proofs.hint.both.Tie as tie

@@ -1,3 +1,4 @@
+-- `accept::hint::unlisted` meets its contract: the fields of a hint, read one after the other. Assumes nothing.
 use mathlib.Core.Path.{sym}
 use denote.Ref.{now}
 use borrow.Author.Needs.{needs}
@@ -13,9 +14,6 @@ returns c =
     let d = i .before .before in
     let a = d .before .before .before .args in
     rw (hint-of (a .op) (now (a .code)) (d .before .if1 .taken), c .listed .ensures, k .word5 .ensures, k .before .word4 .ensures, o .word3 .ensures, i .word2 .ensures, o .before .wide2 .ensures, i .before .wide .ensures, d .word .ensures)
-
-returns-2 : tie.Need-returns-2
-returns-2 c = sym (no-hint (c .before .before .args .op) (now (c .before .before .args .code)) (c .if1 .left))
 
 pub unlisted-spec : {M : Type 1} → statement M
 unlisted-spec =
@@ -34,4 +32,4 @@ unlisted-spec =
     (λ c κs. search needs)
     (λ c κs. search needs)
     returns
-    returns-2)
+    (λ c. sym (no-hint (c .before .before .args .op) (now (c .before .before .args .code)) (c .if1 .left))))

@@ -1,40 +1,29 @@
-use Prim.Native.Nat.{_≤_, _-_}
-use mathlib.Core.Path.{_≡_, sym, ap, _∙_}
+-- `accept::registers::below` meets its contract: what is left of the fields decides. Assumes nothing.
+use Prim.Native.Nat.{_-_}
+use mathlib.Core.Path.{_∙_}
 use borrow.Author.Needs.{needs}
+use borrow.Author.Tests.{lt-ltb, le-ltb}
 use denote.Ref.{now}
-use Rattle.bytecode.specs.Layout.{words}
 use Rattle.common.specs.Lists.{allBelow}
-use Rattle.accept.proofs.Left.{left, left-all, left-none, below-hit, below-miss}
+use Rattle.accept.proofs.Left.{Testing, test-first, test-turn, test-more, test-last}
 use Rattle.accept.proofs.registers.below.Statement.{statement}
 use Rattle.accept.proofs.registers.below.Tie as tie
 
 abbrev Inv-loop : tie.InvT-loop
-Inv-loop code at n rows k₀ k = (k ≤ n) × (allBelow rows (words code at n) ≡ allBelow rows (left code at n k))
+Inv-loop code at n rows k₀ k = Testing (allBelow rows) code at n k
 
 abbrev μ-loop : tie.MeasureT-loop
 μ-loop code at n rows k₀ k = n - k
 
-loop-holds : tie.Need-loop-holds Inv-loop μ-loop
-loop-holds c =
-    let a = c .before .args in
-    (search needs, ap (allBelow (a .rows)) (left-all (now (a .code)) (a .at) (a .n)))
-
 returns : tie.Need-returns Inv-loop μ-loop
 returns c =
-    let l = c .before .before .before .before in
-    let a = l .before .before .args in
-    sym (l .loop .inv .1 ∙ below-miss (now (a .code)) (a .at) (a .n) (l .loop .k) _ (c .before .before .before .loop-test .taken) (c .before .wide .ensures ∙ c .before .before .word .ensures) (a .rows) (c .if1 .taken))
+    let t = c .before .before .before in
+    rw (test-turn (t .before .loop .inv) (t .loop-test .taken) (c .before .wide .ensures ∙ c .before .before .word .ensures), le-ltb _ _ (c .if1 .taken))
 
 loop-again : tie.Need-loop-again Inv-loop μ-loop
 loop-again c =
-    let l = c .before .before .before .before in
-    let a = l .before .before .args in
-    (search needs, l .loop .inv .1 ∙ below-hit (now (a .code)) (a .at) (a .n) (l .loop .k) _ (c .before .before .before .loop-test .taken) (c .before .wide .ensures ∙ c .before .before .word .ensures) (a .rows) (c .if1 .left))
-
-returns-2 : tie.Need-returns-2 Inv-loop μ-loop
-returns-2 c =
-    let a = c .before .before .before .args in
-    sym (c .before .loop .inv .1 ∙ ap (allBelow (a .rows)) (left-none (now (a .code)) (a .at) (a .n) (c .before .loop .k) (c .loop-test .left)))
+    let t = c .before .before .before in
+    test-more (t .before .loop .inv) (t .loop-test .taken) (c .before .wide .ensures ∙ c .before .before .word .ensures) (rw (lt-ltb _ _ (c .if1 .left)))
 
 pub below-spec : {M : Type 1} → statement M
 below-spec =
@@ -42,7 +31,7 @@ below-spec =
     (tie.spec
     Inv-loop
     μ-loop
-    loop-holds
+    (λ c. let a = c .before .args in test-first (allBelow (a .rows)) (now (a .code)) (a .at) (a .n))
     (λ c. search needs)
     (λ c. search needs)
     (λ c κs. search needs)
@@ -51,4 +40,4 @@ below-spec =
     (λ c. search needs)
     (λ c. search needs)
     loop-again
-    returns-2)
+    (λ c. rw (test-last (c .before .loop .inv) (c .loop-test .left))))

@@ -1,3 +1,4 @@
+-- `accept::registers::judge_registers` meets its contract: the destinations, the sources, and then their collisions. Assumes nothing.
 use mathlib.Core.Path.{sym, _∙_}
 use borrow.Author.Needs.{needs}
 use Rattle.accept.specs.Working.{judgedRegisters}
@@ -22,10 +23,6 @@ returns-3 c =
     let b = c .before in
     rw (sym (b .before .before .below .ensures) ∙ b .before .if1 .taken, sym (b .below2 .ensures) ∙ c .if2 .left)
 
-returns-4 : tie.Need-returns-4
-unfolding judgedRegisters
-returns-4 c = rw (sym (c .before .below .ensures) ∙ c .if1 .left)
-
 pub judge-registers-spec : {M : Type 1} → statement M
 judge-registers-spec =
     tie.close
@@ -36,4 +33,4 @@ judge-registers-spec =
     returns
     returns-2
     returns-3
-    returns-4)
+    (λ c. unfold judgedRegisters in rw (sym (c .before .below .ensures) ∙ c .if1 .left)))

@@ -1,27 +1,29 @@
-use mathlib.Core.Path.{_≡_, sym, _∙_}
-use mathlib.Core.Bool.{true, false}
+-- `answers::line::numbers_of` meets its contract: each field as `number` reads it. Assumes nothing.
+use mathlib.Core.Path.{sym, _∙_}
 use borrow.Author.Needs.{needs}
 use borrow.Author.Tests.{not-true, not-false}
-use Rattle.answers.specs.Line.{isLine}
 use Rattle.answers.proofs.line.numbers_of.Statement.{statement}
 use Rattle.answers.proofs.line.numbers_of.Tie as tie
 
-returns : tie.Need-returns
-returns c =
-    let is : isLine 9 (c .before .before .before .args .text .now) ≡ false = sym (c .before .is-line .ensures) ∙ not-true _ (c .if1 .taken) in
-    rw is
-
 returns-2 : tie.Need-returns-2
 returns-2 c =
-    let is : isLine 9 (c .before .before .before .before .before .before .before .before .before .args .text .now) ≡ true = sym (c .before .before .before .before .before .before .before .is-line .ensures) ∙ not-false _ (c .before .before .before .before .before .before .if1 .left) in
-    rw (is, c .before .before .before .before .before .code .ensures, c .before .before .before .before .number .ensures, c .before .before .before .number2 .ensures, c .before .before .number3 .ensures, c .before .number4 .ensures, c .number5 .ensures)
+    let f = c .before .before .before .before .before in
+    rw (
+      sym (f .before .before .is-line .ensures) ∙ not-false _ (f .before .if1 .left),
+      f .code .ensures,
+      c .before .before .before .before .number .ensures,
+      c .before .before .before .number2 .ensures,
+      c .before .before .number3 .ensures,
+      c .before .number4 .ensures,
+      c .number5 .ensures,
+    )
 
 pub numbers-of-spec : {M : Type 1} → statement M
 numbers-of-spec =
     tie.close
     (tie.spec
     (λ c κs. search needs)
-    returns
+    (λ c. rw (sym (c .before .is-line .ensures) ∙ not-true _ (c .if1 .taken)))
     (λ c κs. search needs)
     (λ c κs. search needs)
     (λ c κs. search needs)

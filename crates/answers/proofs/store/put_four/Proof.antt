@@ -1,5 +1,5 @@
+-- `answers::store::put_four` meets its contract. Assumes nothing.
 use borrow.Author.Needs.{needs}
-use native.Mathlib.Omega.{arith}
 use Rattle.answers.proofs.store.put_four.Statement.{statement}
 use Rattle.answers.proofs.store.put_four.Tie as tie
 

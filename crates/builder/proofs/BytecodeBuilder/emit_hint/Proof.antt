@@ -1,3 +1,4 @@
+-- `builder::BytecodeBuilder::emit_hint` meets its contract: the dimensions, and then the room that is reserved, decide. Assumes nothing.
 use Prim.Native.Nat.{ℕ, _+_, _*_}
 use mathlib.Core.Path.{_≡_, refl, sym, ap, _∙_}
 use mathlib.Core.List.{List, _∷_, _++_}
@@ -12,7 +13,7 @@ use Rattle.bytecode.specs.Encode.{encode}
 use Rattle.builder.specs.Working.{reserved}
 use Rattle.builder.specs.declared.BytecodeBuilder.{BytecodeBuilder}
 use Rattle.bytecode.proofs.Words.{length-les}
-use Rattle.builder.proofs.Room.{roomy, has-room, no-room, emitted, refused-room, judged, refused-dimension, capped}
+use Rattle.builder.proofs.Room.{granted, emitted, refused-room, judged, refused-dimension, capped}
 use Rattle.builder.proofs.BytecodeBuilder.emit_hint.Statement.{statement}
 use Rattle.builder.proofs.BytecodeBuilder.emit_hint.Tie as tie
 
@@ -54,22 +55,19 @@ returns : tie.Need-returns
 returns c =
     let r = c .before .before in
     judged _ _ _ _ _ _ _ refl (ap not (ok r))
-    (refused-room (bs r) (b r) (s r) (r .reserve .result) (n r) (len r) (answer r) (no-room _ _ _ _ _ (sym (answer r) ∙ c .enum-told2 .given .1)))
+    (refused-room (bs r) (b r) (s r) (n r) (len r) (answer r) (c .enum-told2 .given .1))
 
 put-hint-requires : tie.Need-put-hint-requires
 put-hint-requires c κs =
     let r = c .before .before .before in
-    let h = roomy _ _ _ (has-room _ _ _ _ (sym (answer r) ∙ c .before .enum-told .given .1)) in
+    let h = granted _ _ _ (answer r) (c .before .enum-told .given .1) in
     (h .buffer, ok r, omega (arith, h), omega (arith, h), omega (arith, h))
 
 returns-2 : tie.Need-returns-2
 returns-2 c =
     let r = c .before .before .before .before .before .before in
     judged _ _ _ _ _ _ _ refl (ap not (ok r))
-    (emitted (bs r) (b r) (s r) (r .reserve .result) (n r) _ (len r) (answer r) (has-room _ _ _ _ (sym (answer r) ∙ c .before .before .before .before .enum-told .given .1)) (c .before .before .put-hint .ensures))
-
-returns-3 : tie.Need-returns-3
-returns-3 c = refused-dimension _ _ _ _ (ap not (sym (c .before .dims-fit .ensures) ∙ c .if1 .left))
+    (emitted (bs r) (b r) (s r) (n r) (len r) (answer r) (c .before .before .before .before .enum-told .given .1) (c .before .before .put-hint .ensures))
 
 pub emit-hint-spec : {M : Type 1} → statement M
 emit-hint-spec =
@@ -84,4 +82,4 @@ emit-hint-spec =
     put-hint-requires
     (λ c. search needs)
     returns-2
-    returns-3)
+    (λ c. refused-dimension _ _ _ _ (ap not (sym (c .before .dims-fit .ensures) ∙ c .if1 .left))))

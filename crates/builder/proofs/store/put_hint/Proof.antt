@@ -1,3 +1,4 @@
+-- `builder::store::put_hint` meets its contract: the stores are one run. Assumes nothing.
 use Prim.Native.Nat.{_+_, _*_}
 use mathlib.Core.List.{_∷_, _++_}
 use denote.Ref.{now}

@@ -1,10 +1,6 @@
-use Prim.Native.Nat.{_+_}
-use mathlib.Core.List.{_∷_, [], _++_}
+-- `builder::store::put_multi` meets its contract: the stores are one run. Assumes nothing.
 use denote.Ref.{now}
-use native.Mathlib.Omega.{arith}
-use lib.ListN.{length}
-use Rattle.bytecode.specs.Layout.{le, les}
-use Rattle.builder.proofs.Stores.{run}
+use Rattle.builder.proofs.Stores.{run-counted}
 use borrow.Author.Needs.{needs}
 use Rattle.builder.proofs.store.put_multi.Statement.{statement}
 use Rattle.builder.proofs.store.put_multi.Tie as tie
@@ -16,12 +12,7 @@ returns c =
     let c₂ = c₃ .before .before .before .before in
     let c₁ = c₂ .before .before .before .before in
     let a = c₁ .before .before .before .before .args in
-    let s = now (a .buf) in
-    let n = length (now (a .srcs)) in
-    run s (6 ∷ (le 4 (a .dst) ++ le 4 n)) (les (now (a .srcs))) (a .at) (a .at + 9)
-    (run s (6 ∷ le 4 (a .dst)) (le 4 n) (a .at) (a .at + 5)
-    (run s (6 ∷ []) (le 4 (a .dst)) (a .at) (a .at + 1) (c₁ .put-byte .ensures) (c₂ .put-word .ensures) (omega arith))
-    (c₃ .put-word2 .ensures) (omega arith)) (c₄ .put-words .ensures) (omega arith)
+    run-counted (now (a .buf)) (now (a .srcs)) 6 (a .dst) (a .at) (c₁ .put-byte .ensures) (c₂ .put-word .ensures) (c₃ .put-word2 .ensures) (c₄ .put-words .ensures)
 
 pub put-multi-spec : {M : Type 1} → statement M
 put-multi-spec =

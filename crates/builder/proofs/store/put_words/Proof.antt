@@ -1,43 +1,23 @@
-use Prim.Native.Nat.{ℕ, _≤_, _-_}
-use mathlib.Core.Path.{_≡_, refl, ap, _∙_}
+-- `builder::store::put_words` meets its contract: what was stored is one run of stores. Assumes nothing.
+use Prim.Native.Nat.{_-_}
+use mathlib.Core.Path.{refl}
 use native.Mathlib.Omega.{arith}
 use borrow.Author.Needs.{needs}
-use lib.ListN.{length, take}
-use lib.Seq.{sets, take-all}
-use mathlib.Core.List.{List}
-use denote.Ref.{now}
-use Rattle.bytecode.specs.Layout.{les}
-use Rattle.builder.proofs.Stores.{put-more}
+use lib.ListN.{length}
+use Rattle.builder.proofs.Stores.{Putting, put-more, put-done}
 use Rattle.builder.proofs.store.put_words.Statement.{statement}
 use Rattle.builder.proofs.store.put_words.Tie as tie
 
 abbrev Inv-loop : tie.InvT-loop
-Inv-loop buf₀ at ws i₀ buf i = (i ≤ length ws) × (buf ≡ sets buf₀ at (les (take i ws))) × (length buf ≡ length buf₀)
+Inv-loop buf₀ at ws i₀ buf i = Putting buf₀ ws at buf i
 
 abbrev μ-loop : tie.MeasureT-loop
 μ-loop buf₀ at ws i₀ buf i = length ws - i
 
-loop-holds : tie.Need-loop-holds Inv-loop μ-loop
-loop-holds c = (search needs, refl, refl)
-
-put-word-requires : tie.Need-put-word-requires Inv-loop μ-loop
-put-word-requires c κs = omega arith
-
 loop-again : tie.Need-loop-again Inv-loop μ-loop
 loop-again c =
     let p = c .before .before in
-    let l = p .before .before .before .before .loop in
-    let a = p .before .before .before .before .before .before .before .args in (
-      search needs,
-      p .put-word .ensures ∙ rw (l .inv .1) (put-more (now (a .buf)) (now (a .ws)) (a .at) (l .i) (omega arith)),
-      p .put-word .kept .0 ∙ l .inv .2,
-    )
-
-returns : tie.Need-returns Inv-loop μ-loop
-returns c =
-    let l = c .before .loop in
-    let a = c .before .before .before .before .args in
-    l .inv .1 ∙ ap (λ (w : List ℕ). sets (now (a .buf)) (a .at) (les w)) (take-all (l .i) (now (a .ws)) (c .loop-test .left))
+    put-more (p .before .before .before .before .loop .inv) (omega arith) (p .put-word .ensures) (p .put-word .kept .0)
 
 pub put-words-spec : {M : Type 1} → statement M
 put-words-spec =
@@ -45,14 +25,14 @@ put-words-spec =
     (tie.spec
     Inv-loop
     μ-loop
-    loop-holds
+    (λ c. record { within = omega arith; stored = refl; kept = refl })
     (λ c. search needs)
     (λ c. search needs)
     (λ c. search needs)
     (λ c. search needs)
-    put-word-requires
+    (λ c κs. omega arith)
     (λ c. search needs)
     (λ c. search needs)
     loop-again
     (λ c. search needs)
-    returns)
+    (λ c. put-done (c .before .loop .inv) (c .loop-test .left)))

@@ -1,3 +1,4 @@
+-- `bytecode::decoder::decode` meets its contract: what is parsed, by the length. Assumes nothing.
 use mathlib.Core.Path.{_≡_, sym, _∙_}
 use denote.Ref.{now}
 use lib.ListN.{getD}
@@ -10,24 +11,12 @@ use Rattle.bytecode.proofs.Parses.{parse-is, has-size, variant-of}
 use Rattle.bytecode.proofs.decoder.decode.Statement.{statement}
 use Rattle.bytecode.proofs.decoder.decode.Tie as tie
 
-returns : tie.Need-returns
-unfolding told parse
-returns c = rw (eq-eqb _ _ (c .if1 .taken))
-
 -- what is parsed, once the length is known
 at-n : (c : tie.After-n) → parse (now (c .before .before .before .before .before .before .before .args .code)) ≡ sized (Bytes (c .n .given .0 .0)) (now (c .before .before .before .before .before .before .before .args .code))
 at-n c =
     let d = c .before .before .before .before .before in
     parse-is (now (d .before .before .args .code)) (c .before .before .before .shape-of .result) (c .before .before .size-of .result) (Bytes (c .n .given .0 .0))
     (d .if1 .left) (c .before .before .before .shape-of .ensures) (c .before .before .size-of .ensures) (c .n .given .1)
-
-returns-2 : tie.Need-returns-2
-unfolding told sized
-returns-2 c = rw (at-n (c .before .before), lt-ltb _ _ (c .if2 .taken))
-
-returns-3 : tie.Need-returns-3
-unfolding told sized
-returns-3 c = rw (at-n (c .before .before .before .before), le-ltb _ _ (c .before .before .if2 .left), variant-of, ← c .before .variant-over .ensures, c .if3 .taken)
 
 returns-4 : tie.Need-returns-4
 unfolding told sized
@@ -47,15 +36,15 @@ pub decode-spec : {M : Type 1} → statement M
 decode-spec =
     tie.close
     (tie.spec
-    returns
+    (λ c. unfold told parse in rw (eq-eqb _ _ (c .if1 .taken)))
     (λ c. search needs)
     (λ c κs. search needs)
     (λ c κs. search needs)
     (λ c. search needs)
     (λ c. search needs)
-    returns-2
+    (λ c. unfold told sized in rw (at-n (c .before .before), lt-ltb _ _ (c .if2 .taken)))
     (λ c κs. search needs)
-    returns-3
+    (λ c. unfold told sized in rw (at-n (c .before .before .before .before), le-ltb _ _ (c .before .before .if2 .left), variant-of, ← c .before .variant-over .ensures, c .if3 .taken))
     (λ c κs. search needs)
     returns-4
     returns-5)

@@ -1,9 +1,7 @@
+-- `bytecode::decoder::first_fields` meets its contract. Assumes nothing.
 use borrow.Author.Needs.{needs}
 use Rattle.bytecode.proofs.decoder.first_fields.Statement.{statement}
 use Rattle.bytecode.proofs.decoder.first_fields.Tie as tie
-
-returns : tie.Need-returns
-returns c = rw (c .word5 .ensures, c .before .word4 .ensures, c .before .before .word3 .ensures, c .before .before .before .word2 .ensures, c .before .before .before .before .word .ensures)
 
 pub first-fields-spec : {M : Type 1} → statement M
 first-fields-spec =
@@ -14,4 +12,4 @@ first-fields-spec =
     (λ c κs. search needs)
     (λ c κs. search needs)
     (λ c κs. search needs)
-    returns)
+    (λ c. rw (c .word5 .ensures, c .before .word4 .ensures, c .before .before .word3 .ensures, c .before .before .before .word2 .ensures, c .before .before .before .before .word .ensures)))

@@ -1,9 +1,7 @@
+-- `bytecode::decoder::hint` meets its contract. Assumes nothing.
 use borrow.Author.Needs.{needs}
 use Rattle.bytecode.proofs.decoder.hint.Statement.{statement}
 use Rattle.bytecode.proofs.decoder.hint.Tie as tie
-
-returns : tie.Need-returns
-returns c = rw (c .word2 .ensures, c .before .before .word .ensures, c .before .wide2 .ensures, c .before .before .before .wide .ensures)
 
 pub hint-spec : {M : Type 1} → statement M
 hint-spec =
@@ -17,4 +15,4 @@ hint-spec =
     (λ c. search needs)
     (λ c. search needs)
     (λ c κs. search needs)
-    returns)
+    (λ c. rw (c .word2 .ensures, c .before .before .word .ensures, c .before .wide2 .ensures, c .before .before .before .wide .ensures)))

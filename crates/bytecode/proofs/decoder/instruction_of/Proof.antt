@@ -1,3 +1,4 @@
+-- `bytecode::decoder::instruction_of` meets its contract: each arm by its key, the last by the keys that it is not. Assumes nothing.
 use Prim.Native.Nat.{ℕ}
 use borrow.Author.Needs.{needs}
 use Rattle.bytecode.specs.Opcode.{table}

@@ -1,9 +1,7 @@
+-- `bytecode::layout::hint_size` meets its contract. Assumes nothing.
 use borrow.Author.Needs.{needs}
 use Rattle.bytecode.proofs.layout.hint_size.Statement.{statement}
 use Rattle.bytecode.proofs.layout.hint_size.Tie as tie
-
-returns : tie.Need-returns
-returns c = rw (c .wide2 .ensures, c .before .word2 .ensures, c .before .before .wide .ensures, c .before .before .before .word .ensures)
 
 pub hint-size-spec : {M : Type 1} → statement M
 hint-size-spec =
@@ -21,4 +19,4 @@ hint-size-spec =
     (λ c. search needs)
     (λ c. search needs)
     (λ c. search needs)
-    returns)
+    (λ c. rw (c .wide2 .ensures, c .before .word2 .ensures, c .before .before .wide .ensures, c .before .before .before .word .ensures)))

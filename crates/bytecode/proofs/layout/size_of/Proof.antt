@@ -1,31 +1,8 @@
+-- `bytecode::layout::size_of` meets its contract: each arm by its shape. Assumes nothing.
 use Rattle.bytecode.specs.Layout.{sizeAs}
 use borrow.Author.Needs.{needs}
 use Rattle.bytecode.proofs.layout.size_of.Statement.{statement}
 use Rattle.bytecode.proofs.layout.size_of.Tie as tie
-
-returns : tie.Need-returns
-unfolding sizeAs
-returns c = rw (c .enum-told .given .1)
-
-returns-2 : tie.Need-returns-2
-unfolding sizeAs
-returns-2 c = rw (c .enum-told2 .given .1)
-
-returns-3 : tie.Need-returns-3
-unfolding sizeAs
-returns-3 c = rw (c .before .before .shape .given .1, c .fixed-size .ensures)
-
-returns-4 : tie.Need-returns-4
-unfolding sizeAs
-returns-4 c = rw (c .enum-told3 .given .1)
-
-returns-5 : tie.Need-returns-5
-unfolding sizeAs
-returns-5 c = rw (c .before .before .enum-told4 .given .1, c .wide .ensures, c .before .word .ensures)
-
-returns-6 : tie.Need-returns-6
-unfolding sizeAs
-returns-6 c = rw (c .before .before .before .enum-told5 .given .1, c .hint-size .ensures, c .before .wide2 .ensures, c .before .before .word2 .ensures)
 
 pub size-of-spec : {M : Type 1} → statement M
 size-of-spec =
@@ -45,9 +22,9 @@ size-of-spec =
     (λ c κs. search needs)
     (λ c κs. search needs)
     (λ c κs. search needs)
-    returns
-    returns-2
-    returns-3
-    returns-4
-    returns-5
-    returns-6)
+    (λ c. unfold sizeAs in rw (c .enum-told .given .1))
+    (λ c. unfold sizeAs in rw (c .enum-told2 .given .1))
+    (λ c. unfold sizeAs in rw (c .before .before .shape .given .1, c .fixed-size .ensures))
+    (λ c. unfold sizeAs in rw (c .enum-told3 .given .1))
+    (λ c. unfold sizeAs in rw (c .before .before .enum-told4 .given .1, c .wide .ensures, c .before .word .ensures))
+    (λ c. unfold sizeAs in rw (c .before .before .before .enum-told5 .given .1, c .hint-size .ensures, c .before .wide2 .ensures, c .before .before .word2 .ensures)))

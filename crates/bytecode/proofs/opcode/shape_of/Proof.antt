@@ -1,4 +1,4 @@
--- `bytecode::shape_of` meets its contract: each arm by its key, the last by the keys that it is not.
+-- `bytecode::opcode::shape_of` meets its contract: each arm by its key, the last by the keys that it is not. Assumes nothing.
 use mathlib.Core.Path.{sym, ap}
 use Rattle.bytecode.specs.Opcode.{shapeOf, table}
 use Rattle.bytecode.proofs.Tables.{absent}

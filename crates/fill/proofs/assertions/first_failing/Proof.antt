@@ -1,81 +1,17 @@
-use native.Mathlib.Omega.{arith}
+-- `fill::assertions::first_failing` meets its contract: each arm scans by its kind. Assumes nothing.
 use borrow.Author.Needs.{needs}
 use Rattle.fill.proofs.assertions.first_failing.Statement.{statement}
 use Rattle.fill.proofs.assertions.first_failing.Tie as tie
-
-enum-told : tie.Need-enum-told
-enum-told c = search needs
-
-scan-requires : tie.Need-scan-requires
-scan-requires c κs = search needs
-
-enum-told-2 : tie.Need-enum-told-2
-enum-told-2 c = search needs
-
-scan-requires-2 : tie.Need-scan-requires-2
-scan-requires-2 c κs = search needs
-
-enum-told-3 : tie.Need-enum-told-3
-enum-told-3 c = search needs
-
-scan-requires-3 : tie.Need-scan-requires-3
-scan-requires-3 c κs = search needs
-
-enum-told-4 : tie.Need-enum-told-4
-enum-told-4 c = search needs
-
-scan-requires-4 : tie.Need-scan-requires-4
-scan-requires-4 c κs = search needs
-
-enum-told-5 : tie.Need-enum-told-5
-enum-told-5 c = search needs
-
-scan-requires-5 : tie.Need-scan-requires-5
-scan-requires-5 c κs = search needs
-
-enum-told-6 : tie.Need-enum-told-6
-enum-told-6 c = search needs
-
-scan-requires-6 : tie.Need-scan-requires-6
-scan-requires-6 c κs = search needs
-
-returns : tie.Need-returns
-returns c = rw (c .before .enum-told .given .1) (c .scan .ensures)
-
-returns-2 : tie.Need-returns-2
-returns-2 c = rw (c .before .enum-told2 .given .1) (c .scan2 .ensures)
-
-returns-3 : tie.Need-returns-3
-returns-3 c = rw (c .before .enum-told3 .given .1) (c .scan3 .ensures)
-
-returns-4 : tie.Need-returns-4
-returns-4 c = rw (c .before .enum-told4 .given .1) (c .scan4 .ensures)
-
-returns-5 : tie.Need-returns-5
-returns-5 c = rw (c .before .enum-told5 .given .1) (c .scan5 .ensures)
-
-returns-6 : tie.Need-returns-6
-returns-6 c = rw (c .before .enum-told6 .given .1) (c .scan6 .ensures)
 
 pub first-failing-spec : {M : Type 1} → statement M
 first-failing-spec =
     tie.close
     (tie.spec
-    enum-told
-    scan-requires
-    enum-told-2
-    scan-requires-2
-    enum-told-3
-    scan-requires-3
-    enum-told-4
-    scan-requires-4
-    enum-told-5
-    scan-requires-5
-    enum-told-6
-    scan-requires-6
-    returns
-    returns-2
-    returns-3
-    returns-4
-    returns-5
-    returns-6)
+    (λ c. search needs) (λ c κs. search needs) (λ c. search needs) (λ c κs. search needs) (λ c. search needs) (λ c κs. search needs)
+    (λ c. search needs) (λ c κs. search needs) (λ c. search needs) (λ c κs. search needs) (λ c. search needs) (λ c κs. search needs)
+    (λ c. rw (c .before .enum-told .given .1) (c .scan .ensures))
+    (λ c. rw (c .before .enum-told2 .given .1) (c .scan2 .ensures))
+    (λ c. rw (c .before .enum-told3 .given .1) (c .scan3 .ensures))
+    (λ c. rw (c .before .enum-told4 .given .1) (c .scan4 .ensures))
+    (λ c. rw (c .before .enum-told5 .given .1) (c .scan5 .ensures))
+    (λ c. rw (c .before .enum-told6 .given .1) (c .scan6 .ensures)))

@@ -1,3 +1,4 @@
+-- `fill::assertions::judge` meets its contract: the claim reads rows, and its first failing column is noted. Assumes nothing.
 use mathlib.Core.Path.{_≡_, ap₂, _∙_}
 use mathlib.Core.Bool.{Bool}
 use Prim.Native.Nat.{ℕ}
@@ -11,12 +12,6 @@ use native.Mathlib.Omega.{arith}
 use borrow.Author.Needs.{needs}
 use Rattle.fill.proofs.assertions.judge.Statement.{statement}
 use Rattle.fill.proofs.assertions.judge.Tie as tie
-
-enum-known-claim : tie.Need-enum-known-claim
-enum-known-claim c = search needs
-
-enum-told : tie.Need-enum-told
-enum-told c = search needs
 
 -- the rows that the claim reads, and what it says of column k of the stripe
 registers : (c : tie.After-known-told)
@@ -40,31 +35,13 @@ told-at c k =
     let w = c .before .claim .given .0 in
     toldBy (w .0) (a .number) (w .1 .1 .1 .1 .0) (columnOf (a .s) (a .values .now) k (w .1 .1 .0)) (columnOf (a .s) (a .values .now) k (w .1 .1 .1 .0))
 
-returns : tie.Need-returns
-returns c = let a = c .before .before .before .args in rw (c .enum-told .given .1) (judged-nothing (a .cap) (a .s .count))
-
-first-failing-requires : tie.Need-first-failing-requires
-first-failing-requires c κs = let g = registers c in ((c .before .before .before .before .pre .0 .0, g .0), (g .1, g .2))
-
-word-at-requires : tie.Need-word-at-requires
-word-at-requires c κs = let g = registers (c .before .before .before) in (omega arith, g .1)
-
-word-at-requires-2 : tie.Need-word-at-requires-2
-word-at-requires-2 c κs = let g = registers (c .before .before .before .before) in (omega arith, g .2)
-
-failure-requires : tie.Need-failure-requires
-failure-requires c κs = search needs
-
-note-requires : tie.Need-note-requires
-note-requires c κs = search needs
-
 returns-2 : tie.Need-returns-2
 returns-2 c =
     let k = c .before .before .before .before .before .before .before .before in
     let a = k .before .before .before .before .args in
     let w = k .before .claim .given in
     let r = c .before .before .before .before .before .before .before .first-failing in
-    let said : c .before .before .failure .result ≡ toldBy (w .0 .0) (a .number) (w .0 .1 .1 .1 .1 .0) (columnOf (a .s) (a .values .now) (r .result) (w .0 .1 .1 .0)) (columnOf (a .s) (a .values .now) (r .result) (w .0 .1 .1 .1 .0)) =
+    let said : c .before .before .failure .result ≡ told-at k (r .result) =
     c .before .before .failure .ensures ∙ ap₂ (toldBy (w .0 .0) (a .number) (w .0 .1 .1 .1 .1 .0)) (c .before .before .before .before .word-at .ensures) (c .before .before .before .word-at2 .ensures) in
     rw (w .1)
     (judged-note (a .cap) (fails-at k) (told-at k) (a .s .count) (r .result) (r .ensures) (omega arith) (λ l h. rw said at (c .note .ensures l h)))
@@ -81,13 +58,11 @@ pub judge-spec : {M : Type 1} → statement M
 judge-spec =
     tie.close
     (tie.spec
-    enum-known-claim
-    enum-told
-    returns
-    first-failing-requires
-    word-at-requires
-    word-at-requires-2
-    failure-requires
-    note-requires
+    (λ c. search needs) (λ c. search needs)
+    (λ c. let a = c .before .before .before .args in rw (c .enum-told .given .1) (judged-nothing (a .cap) (a .s .count)))
+    (λ c κs. let g = registers c in ((c .before .before .before .before .pre .0 .0, g .0), (g .1, g .2)))
+    (λ c κs. let g = registers (c .before .before .before) in (omega arith, g .1))
+    (λ c κs. let g = registers (c .before .before .before .before) in (omega arith, g .2))
+    (λ c κs. search needs) (λ c κs. search needs)
     returns-2
     returns-3)

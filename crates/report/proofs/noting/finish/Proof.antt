@@ -1,32 +1,14 @@
+-- `report::noting::finish` meets its contract: what the state shows at the end is the answer. Assumes nothing.
 use mathlib.Core.Path.{_∙_}
 use Rattle.report.proofs.Noted.{answer-clean, answer-failing}
-use native.Mathlib.Omega.{arith}
 use borrow.Author.Needs.{needs}
 use Rattle.report.proofs.noting.finish.Statement.{statement}
 use Rattle.report.proofs.noting.finish.Tie as tie
-
-enum-told : tie.Need-enum-told
-enum-told c = search needs
-
-enum-known-low : tie.Need-enum-known-low
-enum-known-low c = search needs
-
-smaller-requires : tie.Need-smaller-requires
-smaller-requires c κs = search needs
-
-mul-n : tie.Need-mul-n
-mul-n c = search needs
-
-copy-kept-requires : tie.Need-copy-kept-requires
-copy-kept-requires c κs = search needs
 
 returns : tie.Need-returns
 returns c =
     let a = c .before .before .before .args in
     λ l h. answer-clean (a .cap) l (a .records .now) (a .report .now) (rw (c .enum-told .given .1) at h)
-
-same-length : tie.Need-same-length
-same-length c = search needs
 
 returns-2 : tie.Need-returns-2
 returns-2 c =
@@ -41,11 +23,7 @@ pub finish-spec : {M : Type 1} → statement M
 finish-spec =
     tie.close
     (tie.spec
-    enum-told
-    enum-known-low
-    smaller-requires
-    mul-n
-    copy-kept-requires
+    (λ c. search needs) (λ c. search needs) (λ c κs. search needs) (λ c. search needs) (λ c κs. search needs)
     returns
-    same-length
+    (λ c. search needs)
     returns-2)

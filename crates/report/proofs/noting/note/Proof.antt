@@ -1,17 +1,9 @@
+-- `report::noting::note` meets its contract: dropped, added or begun afresh, by where the violation stands. Assumes nothing.
 use native.Mathlib.Omega.{arith}
 use Rattle.report.proofs.Noted.{note-clean, note-drop, note-more, note-fresh}
 use borrow.Author.Needs.{needs}
 use Rattle.report.proofs.noting.note.Statement.{statement}
 use Rattle.report.proofs.noting.note.Tie as tie
-
-enum-told : tie.Need-enum-told
-enum-told c = search needs
-
-push-requires : tie.Need-push-requires
-push-requires c κs = search needs
-
-enum-known-low : tie.Need-enum-known-low
-enum-known-low c = search needs
 
 returns : tie.Need-returns
 returns c =
@@ -19,20 +11,11 @@ returns c =
     let w = c .before .before .low .given in
     λ l h. note-drop (a .cap) (a .k) _ (a .records .now) (w .0 .0) (w .0 .1 .0) (c .if1 .taken) l (rw (w .1) at h)
 
-push-requires-2 : tie.Need-push-requires-2
-push-requires-2 c κs = search needs
-
-add-t14 : tie.Need-add-t14
-add-t14 c = let small = rw (c .before .before .before .before .before .low .given .1) at (c .before .before .before .before .before .before .before .pre .1) in omega arith
-
 returns-2 : tie.Need-returns-2
 returns-2 c =
     let a = c .before .before .before .before .before .before .before .args in
     let w = c .before .before .before .before .before .low .given in
     λ l h. rw (c .push2 .ensures) (note-more (a .cap) (a .k) _ (a .records .now) (w .0 .0) (w .0 .1 .0) (c .before .before .if2 .taken) l (rw (w .1) at h))
-
-push-requires-3 : tie.Need-push-requires-3
-push-requires-3 c κs = search needs
 
 returns-3 : tie.Need-returns-3
 returns-3 c =
@@ -49,4 +32,11 @@ pub note-spec : {M : Type 1} → statement M
 note-spec =
     tie.close
     (tie.spec
-    enum-told push-requires enum-known-low returns push-requires-2 add-t14 returns-2 push-requires-3 returns-3 returns-4)
+    (λ c. search needs) (λ c κs. search needs) (λ c. search needs)
+    returns
+    (λ c κs. search needs)
+    (λ c. let small = rw (c .before .before .before .before .before .low .given .1) at (c .before .before .before .before .before .before .before .pre .1) in omega arith)
+    returns-2
+    (λ c κs. search needs)
+    returns-3
+    returns-4)

@@ -1,13 +1,13 @@
+-- `rows::many::mirror` meets its contract: a turn of the loop is one output more, copied from its input. Assumes nothing.
 use mathlib.Core.Path.{_≡_, refl}
 use mathlib.Core.List.{map, reverse}
-use Prim.Native.Nat.{_+_, _*_, _-_, _≤_, _<_}
+use Prim.Native.Nat.{_*_, _-_, _≤_}
 use lib.ListN.{length, take}
-use lib.Seq.{take-all}
 use Rattle.bytecode.specs.Layout.{words}
 use Rattle.bytecode.proofs.Words.{length-words}
 use Rattle.rows.specs.Column.{stores}
 use Rattle.rows.specs.Working.{Across}
-use Rattle.rows.proofs.Stripes.{in-row, across-same, across-as, across-then}
+use Rattle.rows.proofs.Stripes.{across-same, across-as, across-then}
 use Rattle.rows.proofs.Columns.{register-at, register-in, all-taken, mirror-turn}
 use borrow.Author.Needs.{needs}
 use native.Mathlib.Omega.{arith}
@@ -20,27 +20,6 @@ Inv-loop values₀ s k ins outs j₀ values j = (j ≤ k) × Across (λ col. sto
 abbrev μ-loop : tie.MeasureT-loop
 μ-loop values₀ s k ins outs j₀ values j = k - j
 
-loop-holds : tie.Need-loop-holds Inv-loop μ-loop
-loop-holds c = (omega arith, across-same _ _ (λ col. refl))
-
-sub-last : tie.Need-sub-last Inv-loop μ-loop
-sub-last c = search needs
-
-sub-last-2 : tie.Need-sub-last-2 Inv-loop μ-loop
-sub-last-2 c = search needs
-
-mul-word : tie.Need-mul-word Inv-loop μ-loop
-mul-word c = search needs
-
-word-requires : tie.Need-word-requires Inv-loop μ-loop
-word-requires c κs = search needs
-
-mul-word-2 : tie.Need-mul-word-2 Inv-loop μ-loop
-mul-word-2 c = search needs
-
-word-requires-2 : tie.Need-word-requires-2 Inv-loop μ-loop
-word-requires-2 c κs = search needs
-
 one-row-requires : tie.Need-one-row-requires Inv-loop μ-loop
 one-row-requires c κs =
     let a = c .before .before .before .before .before .before .before .before in
@@ -50,12 +29,6 @@ one-row-requires c κs =
     let d = register-in (a .args .s) n (a .args .outs .now) k (l .j) (a .pre .1 .0 .1) (omega arith) (c .before .before .word .ensures) in
     let r = register-in (a .args .s) n (a .args .ins .now) k (k - 1 - l .j) (a .pre .1 .0 .0) (omega arith) (c .before .word2 .ensures) in
     (a .pre .0 .0, ((d, r), (r, r)))
-
-add-j : tie.Need-add-j Inv-loop μ-loop
-add-j c = search needs
-
-loop-less : tie.Need-loop-less Inv-loop μ-loop
-loop-less c = search needs
 
 loop-again : tie.Need-loop-again Inv-loop μ-loop
 loop-again c =
@@ -70,31 +43,16 @@ loop-again c =
       across-as (mirror-turn ss ds k (l .j) _ _ (length-words (a .args .ins .now) 0 k) (length-words (a .args .outs .now) 0 k) (a .pre .1 .1) (omega arith) to from) (across-then (l .inv .1) (c .before .before .one-row .ensures)),
     )
 
-same-length : tie.Need-same-length Inv-loop μ-loop
-same-length c = search needs
-
-returns : tie.Need-returns Inv-loop μ-loop
-returns c =
-    let a = c .before .before .before .before .before .args in
-    let all : take (c .before .loop .j) (words (a .outs .now) 0 (a .k)) ≡ words (a .outs .now) 0 (a .k) = all-taken (a .outs .now) (a .k) (c .before .loop .j) (c .loop-test .left) in
-    rw all at (c .before .loop .inv .1)
-
 pub mirror-spec : {M : Type 1} → statement M
 mirror-spec =
     tie.close
     (tie.spec
     Inv-loop
     μ-loop
-    loop-holds
-    sub-last
-    sub-last-2
-    mul-word
-    word-requires
-    mul-word-2
-    word-requires-2
+    (λ c. (omega arith, across-same _ _ (λ col. refl)))
+    (λ c. search needs) (λ c. search needs) (λ c. search needs) (λ c κs. search needs) (λ c. search needs) (λ c κs. search needs)
     one-row-requires
-    add-j
-    loop-less
+    (λ c. search needs) (λ c. search needs)
     loop-again
-    same-length
-    returns)
+    (λ c. search needs)
+    (λ c. let a = c .before .before .before .before .before .args in rw (all-taken (a .outs .now) (a .k) (c .before .loop .j) (c .loop-test .left)) at (c .before .loop .inv .1)))

@@ -1,3 +1,4 @@
+-- `rows::many::xor_multi` meets its contract: none, or seeded with the first and the rest folded in. Assumes nothing.
 use mathlib.Core.Path.{_≡_, refl, sym, ap, _∙_}
 use mathlib.Core.List.{map}
 use Prim.Native.Nat.{_-_}
@@ -16,16 +17,10 @@ one-row-requires c κs =
     let d = in-row (a .args .s) (a .pre .0 .1) (a .pre .0 .2) in
     (a .pre .0 .0, ((d, d), (d, d)))
 
-same-length : tie.Need-same-length
-same-length c = search needs
-
 returns : tie.Need-returns
 returns c =
     let a = c .before .before .before .before .before .before .before .args in
     across-as (λ col. ap (λ rs. store col (a .d) (xorAll (map col rs))) (sym (words-none (a .code .now) 9 (a .n) (c .before .before .before .before .if1 .taken)))) (c .before .before .one-row .ensures)
-
-word-requires : tie.Need-word-requires
-word-requires c κs = search needs
 
 one-row-requires-2 : tie.Need-one-row-requires-2
 one-row-requires-2 c κs =
@@ -34,27 +29,6 @@ one-row-requires-2 c κs =
     let first = first-below (a .args .code .now) (a .args .n) (a .args .n - 1) (c .before .before .if1 .left) refl (a .args .s .rows) (a .pre .1 .0) (c .before .word .ensures) in
     let r = in-row (a .args .s) (a .pre .0 .1) first in
     (a .pre .0 .0, ((d, r), (r, r)))
-
-wide-requires : tie.Need-wide-requires
-wide-requires c κs = search needs
-
-sub-later : tie.Need-sub-later
-sub-later c = search needs
-
-mul-end : tie.Need-mul-end
-mul-end c = search needs
-
-add-end : tie.Need-add-end
-add-end c = search needs
-
-sub-xor-rest : tie.Need-sub-xor-rest
-sub-xor-rest c = search needs
-
-part-xor-rest-start : tie.Need-part-xor-rest-start
-part-xor-rest-start c = search needs
-
-part-xor-rest-end : tie.Need-part-xor-rest-end
-part-xor-rest-end c = search needs
 
 xor-rest-requires : tie.Need-xor-rest-requires
 xor-rest-requires c κs =
@@ -65,9 +39,6 @@ xor-rest-requires c κs =
     let below = later-below (a .args .code .now) (a .args .n) (w .result - 1) (c .before .before .before .before .before .before .before .before .if1 .left) less (a .args .s .rows) (a .pre .1 .0) in
     let other = later-other (a .args .code .now) (a .args .n) (w .result - 1) (c .before .before .before .before .before .before .before .before .if1 .left) less (a .args .d) (a .pre .1 .1) in
     ((a .pre .0 .0, size, a .pre .0 .2, omega arith), (below, other))
-
-same-length-2 : tie.Need-same-length-2
-same-length-2 c = search needs
 
 returns-2 : tie.Need-returns-2
 returns-2 c =
@@ -82,17 +53,12 @@ xor-multi-spec =
     tie.close
     (tie.spec
     one-row-requires
-    same-length
+    (λ c. search needs)
     returns
-    word-requires
+    (λ c κs. search needs)
     one-row-requires-2
-    wide-requires
-    sub-later
-    mul-end
-    add-end
-    sub-xor-rest
-    part-xor-rest-start
-    part-xor-rest-end
+    (λ c κs. search needs) (λ c. search needs) (λ c. search needs) (λ c. search needs)
+    (λ c. search needs) (λ c. search needs) (λ c. search needs)
     xor-rest-requires
-    same-length-2
+    (λ c. search needs)
     returns-2)

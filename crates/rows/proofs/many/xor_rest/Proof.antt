@@ -1,13 +1,13 @@
-use mathlib.Core.Path.{_≡_, _∙_, sym}
-use mathlib.Core.List.{map, reverse}
-use Prim.Native.Nat.{_+_, _*_, _-_, _≤_, _<_}
+-- `rows::many::xor_rest` meets its contract: a turn of the loop is one register more. Assumes nothing.
+use mathlib.Core.Path.{_≡_}
+use mathlib.Core.List.{map}
+use Prim.Native.Nat.{_*_, _-_, _≤_}
 use lib.ListN.{length, take, getD}
-use lib.Seq.{take-all}
 use lib.Bits.{bitXor}
 use Rattle.bytecode.specs.Layout.{words}
 use Rattle.bytecode.proofs.Words.{length-words}
 use Rattle.word.specs.Bitwise.{xorAll}
-use Rattle.rows.specs.Column.{store, stores}
+use Rattle.rows.specs.Column.{store}
 use Rattle.rows.specs.Working.{Across}
 use Rattle.rows.proofs.Stripes.{in-row, across-same, across-as, across-then}
 use Rattle.rows.proofs.Columns.{register-at, register-in, all-taken, xor-start, xor-turn}
@@ -27,12 +27,6 @@ loop-holds c =
     let a = c .before .before .args in
     (omega arith, across-same _ _ (xor-start (a .d) (words (a .sources .now) 0 (a .n))))
 
-mul-word : tie.Need-mul-word Inv-loop μ-loop
-mul-word c = search needs
-
-word-requires : tie.Need-word-requires Inv-loop μ-loop
-word-requires c κs = search needs
-
 one-row-requires : tie.Need-one-row-requires Inv-loop μ-loop
 one-row-requires c κs =
     let a = c .before .before .before .before .before .before in
@@ -41,12 +35,6 @@ one-row-requires c κs =
     let d = in-row (a .args .s) n (a .pre .0 .2) in
     let r = register-in (a .args .s) n (a .args .sources .now) (a .args .n) (l .j) (a .pre .1 .0) (c .before .before .loop-test .taken) (c .before .word .ensures) in
     (a .pre .0 .0, ((d, d), (r, r)))
-
-add-j : tie.Need-add-j Inv-loop μ-loop
-add-j c = search needs
-
-loop-less : tie.Need-loop-less Inv-loop μ-loop
-loop-less c = search needs
 
 loop-again : tie.Need-loop-again Inv-loop μ-loop
 loop-again c =
@@ -58,15 +46,6 @@ loop-again c =
       across-as (xor-turn (a .args .d) rs (l .j) _ (a .pre .1 .1) (omega (arith, length-words (a .args .sources .now) 0 (a .args .n))) src) (across-then (l .inv .1) (c .before .before .one-row .ensures)),
     )
 
-same-length : tie.Need-same-length Inv-loop μ-loop
-same-length c = search needs
-
-returns : tie.Need-returns Inv-loop μ-loop
-returns c =
-    let a = c .before .before .before .before .args in
-    let all : take (c .before .loop .j) (words (a .sources .now) 0 (a .n)) ≡ words (a .sources .now) 0 (a .n) = all-taken (a .sources .now) (a .n) (c .before .loop .j) (c .loop-test .left) in
-    rw all at (c .before .loop .inv .1)
-
 pub xor-rest-spec : {M : Type 1} → statement M
 xor-rest-spec =
     tie.close
@@ -74,11 +53,9 @@ xor-rest-spec =
     Inv-loop
     μ-loop
     loop-holds
-    mul-word
-    word-requires
+    (λ c. search needs) (λ c κs. search needs)
     one-row-requires
-    add-j
-    loop-less
+    (λ c. search needs) (λ c. search needs)
     loop-again
-    same-length
-    returns)
+    (λ c. search needs)
+    (λ c. let a = c .before .before .before .before .args in rw (all-taken (a .sources .now) (a .n) (c .before .loop .j) (c .loop-test .left)) at (c .before .loop .inv .1)))

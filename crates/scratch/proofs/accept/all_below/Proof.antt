@@ -14,15 +14,6 @@ Inv-loop wires mentions i₀ i = Below wires mentions i
 abbrev μ-loop : tie.MeasureT-loop
 μ-loop wires mentions i₀ i = length mentions - i
 
-returns : tie.Need-returns Inv-loop μ-loop
-returns c = below-fails (c .before .before .before .before .loop .inv) (omega arith) (omega (arith, c .before .wide .ensures))
-
-loop-again : tie.Need-loop-again Inv-loop μ-loop
-loop-again c = below-more (c .before .before .before .before .loop .inv) (omega arith) (omega (arith, c .before .wide .ensures))
-
-returns-2 : tie.Need-returns-2 Inv-loop μ-loop
-returns-2 c = below-done (c .before .loop .inv) (omega arith)
-
 pub all-below-spec : {M : Type 1} → statement M
 all-below-spec =
     tie.close
@@ -33,8 +24,8 @@ all-below-spec =
     (λ c. search needs)
     (λ c. search needs)
     (λ c κs. search needs)
-    returns
+    (λ c. below-fails (c .before .before .before .before .loop .inv) (omega arith) (omega (arith, c .before .wide .ensures)))
     (λ c. search needs)
     (λ c. search needs)
-    loop-again
-    returns-2)
+    (λ c. below-more (c .before .before .before .before .loop .inv) (omega arith) (omega (arith, c .before .wide .ensures)))
+    (λ c. below-done (c .before .loop .inv) (omega arith)))

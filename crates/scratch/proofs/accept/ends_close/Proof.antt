@@ -14,15 +14,6 @@ Inv-loop ends count at₀ i₀ at i = Closing ends count at i
 abbrev μ-loop : tie.MeasureT-loop
 μ-loop ends count at₀ i₀ at i = length ends - i
 
-returns : tie.Need-returns Inv-loop μ-loop
-returns c = close-fails (c .before .before .before .before .loop .inv) (omega arith) (omega (arith, c .before .wide .ensures))
-
-loop-again : tie.Need-loop-again Inv-loop μ-loop
-loop-again c = close-more (c .before .before .before .before .loop .inv) (c .before .wide .result) (omega arith) (c .before .wide .ensures) (omega arith)
-
-returns-2 : tie.Need-returns-2 Inv-loop μ-loop
-returns-2 c = close-done (c .before .loop .inv) (omega arith)
-
 pub ends-close-spec : {M : Type 1} → statement M
 ends-close-spec =
     tie.close
@@ -33,8 +24,8 @@ ends-close-spec =
     (λ c. search needs)
     (λ c. search needs)
     (λ c κs. search needs)
-    returns
+    (λ c. close-fails (c .before .before .before .before .loop .inv) (omega arith) (omega (arith, c .before .wide .ensures)))
     (λ c. search needs)
     (λ c. search needs)
-    loop-again
-    returns-2)
+    (λ c. close-more (c .before .before .before .before .loop .inv) (c .before .wide .result) (omega arith) (c .before .wide .ensures) (omega arith))
+    (λ c. close-done (c .before .loop .inv) (omega arith)))

@@ -30,16 +30,10 @@ loop-holds c =
       made = chained-none (a .args .marks .now) (a .args .last .now) (a .args .head .now) (a .args .link .now) (a .args .count .now) (a .pre .5);
     }
 
-add-count : tie.Need-add-count Inv-loop μ-loop
-add-count c = omega (arith, chain-small (c .before .before .before .before .before .before .before .loop .inv) (omega arith) (c .before .before .wide .result) (gate (c .before .before)) (omega arith))
-
 loop-again : tie.Need-loop-again Inv-loop μ-loop
 loop-again c =
     chain-more (c .before .before .before .before .before .before .before .loop .inv) (omega arith) (omega arith) (c .before .before .before .before .if1 .taken) (c .before .before .wide .ensures)
     (gate (c .before .before))
-
-loop-again-2 : tie.Need-loop-again-2 Inv-loop μ-loop
-loop-again-2 c = chain-skip (c .before .before .before .loop .inv) (omega arith) (c .if1 .left)
 
 returns : tie.Need-returns Inv-loop μ-loop
 returns c =
@@ -67,10 +61,10 @@ chain-wires-spec =
     (λ c. gate (c .before))
     (λ c. omega (arith, gate (c .before)))
     (λ c. gate (c .before))
-    add-count
+    (λ c. omega (arith, chain-small (c .before .before .before .before .before .before .before .loop .inv) (omega arith) (c .before .before .wide .result) (gate (c .before .before)) (omega arith)))
     (λ c. gate (c .before .before))
     (λ c. search needs)
     loop-again
     (λ c. search needs)
-    loop-again-2
+    (λ c. chain-skip (c .before .before .before .loop .inv) (omega arith) (c .if1 .left))
     returns)

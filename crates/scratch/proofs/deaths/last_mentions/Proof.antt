@@ -23,12 +23,6 @@ stamp-requires c κs =
     let q = c .before .wide .ensures in
     (omega arith, omega arith, a .pre .2)
 
-loop-again : tie.Need-loop-again Inv-loop μ-loop
-loop-again c = gate-stamped (c .before .before .before .before .before .loop .inv) (omega arith) (c .before .before .wide .ensures) (c .stamp .ensures)
-
-returns : tie.Need-returns Inv-loop μ-loop
-returns c = all-stamped (c .before .loop .inv) (omega arith)
-
 pub last-mentions-spec : {M : Type 1} → statement M
 last-mentions-spec =
     tie.close
@@ -43,5 +37,5 @@ last-mentions-spec =
     stamp-requires
     (λ c. search needs)
     (λ c. search needs)
-    loop-again
-    returns)
+    (λ c. gate-stamped (c .before .before .before .before .before .loop .inv) (omega arith) (c .before .before .wide .ensures) (c .stamp .ensures))
+    (λ c. all-stamped (c .before .loop .inv) (omega arith)))

@@ -3,7 +3,7 @@ use Prim.Native.Nat.{ℕ, _<_}
 use native.Mathlib.Omega.{arith}
 use mathlib.Core.Path.{ap, _∙_}
 use lib.ListN.{length, length-replicate, getD-replicate}
-use Rattle.scratch.proofs.Cut.{below-at}
+use Rattle.common.proofs.Below.{below-at}
 use Rattle.scratch.proofs.deaths.Stamps.{last-low, last-dying}
 use Rattle.scratch.proofs.deaths.order_deaths.Statement.{statement}
 use Rattle.scratch.proofs.deaths.order_deaths.Tie as tie

@@ -20,12 +20,6 @@ known c =
     let b = s .before .before .pre .2 (s .loop .j) (omega arith) in
     omega (arith, c .wide .ensures)
 
-loop-again : tie.Need-loop-again Inv-loop μ-loop
-loop-again c = stamp-more (c .before .before .before .loop .inv) (omega arith) (omega arith) (c .wide .ensures)
-
-returns : tie.Need-returns Inv-loop μ-loop
-returns c = stamp-done (c .before .loop .inv) (omega arith)
-
 pub stamp-spec : {M : Type 1} → statement M
 stamp-spec =
     tie.close
@@ -40,5 +34,5 @@ stamp-spec =
     known
     (λ c. search needs)
     (λ c. search needs)
-    loop-again
-    returns)
+    (λ c. stamp-more (c .before .before .before .loop .inv) (omega arith) (omega arith) (c .wide .ensures))
+    (λ c. stamp-done (c .before .loop .inv) (omega arith)))

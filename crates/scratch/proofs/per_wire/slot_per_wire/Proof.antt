@@ -15,9 +15,6 @@ Inv-loop marks slots₀ next₀ i₀ slots next i = Numbering marks slots₀ slo
 abbrev μ-loop : tie.MeasureT-loop
 μ-loop marks slots₀ next₀ i₀ slots next i = length marks - i
 
-add-next : tie.Need-add-next Inv-loop μ-loop
-add-next c = let s = c .before .before .before in omega (arith, number-small (s .before .args .marks .now) (s .loop .slots) (s .loop .i) (s .loop .next) (s .loop .inv .made))
-
 loop-again : tie.Need-loop-again Inv-loop μ-loop
 loop-again c =
     let s = c .before .before .before in
@@ -41,7 +38,7 @@ slot-per-wire-spec =
     (λ c. omega arith)
     (λ c. search needs)
     (λ c. omega arith)
-    add-next
+    (λ c. let s = c .before .before .before in omega (arith, number-small (s .before .args .marks .now) (s .loop .slots) (s .loop .i) (s .loop .next) (s .loop .inv .made)))
     (λ c. search needs)
     (λ c. search needs)
     loop-again

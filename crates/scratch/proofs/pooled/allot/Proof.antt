@@ -25,9 +25,6 @@ loop-again c =
     let w = c .before .before .before .before in
     allot-more (w .before .before .before .loop .inv) (w .wide .result) (omega arith) (omega arith) (w .wide .ensures) (c .before .before .meet .kept .1 .1 .0) (c .before .before .meet .ensures)
 
-returns : tie.Need-returns Inv-loop μ-loop
-returns c = (allot-done (c .before .loop .inv) (omega arith), omega arith, omega arith)
-
 pub allot-spec : {M : Type 1} → statement M
 allot-spec =
     tie.close
@@ -43,4 +40,4 @@ allot-spec =
     (λ c. search needs)
     loop-again
     (λ c. c .before .loop .inv .kept)
-    returns)
+    (λ c. (allot-done (c .before .loop .inv) (omega arith), omega arith, omega arith)))

@@ -5,12 +5,6 @@ use Rattle.scratch.proofs.pooled.Steps.{meet-plain, meet-slotted, meet-
 use Rattle.scratch.proofs.pooled.meet.Statement.{statement}
 use Rattle.scratch.proofs.pooled.meet.Tie as tie
 
-returns : tie.Need-returns
-returns c = let a = c .before .before .args in (meet-plain (a .marks .now) (a .slots .now) (a .free .now) (a .at) (a .w) (c .if1 .taken), omega arith, omega arith)
-
-returns-2 : tie.Need-returns-2
-returns-2 c = let a = c .before .before .before .before .args in (meet-slotted (a .marks .now) (a .slots .now) (a .free .now) (a .at) (a .w) (c .if2 .taken), omega arith, omega arith)
-
 returns-3 : tie.Need-returns-3
 returns-3 c =
     let a = c .before .before .before .before .before .args in
@@ -26,10 +20,10 @@ meet-spec =
     tie.close
     (tie.spec
     (λ c. search needs)
-    returns
+    (λ c. let a = c .before .before .args in (meet-plain (a .marks .now) (a .slots .now) (a .free .now) (a .at) (a .w) (c .if1 .taken), omega arith, omega arith))
     (λ c. search needs)
     (λ c. search needs)
-    returns-2
+    (λ c. let a = c .before .before .before .before .args in (meet-slotted (a .marks .now) (a .slots .now) (a .free .now) (a .at) (a .w) (c .if2 .taken), omega arith, omega arith))
     (λ c. search needs)
     (λ c. search needs)
     (λ c. search needs)

@@ -7,7 +7,7 @@ use borrow.Author.Needs.{needs}
 use Rattle.scratch.specs.Gates.{gatesOf}
 use Rattle.scratch.specs.Policies.{dying}
 use Rattle.scratch.specs.Working.{chain}
-use Rattle.scratch.proofs.pooled.Runs.{Running, Full, run-start, gate-ends, mentions-slotted, filled, living, sampled, stack-room, chain-slotted, run-next, run-end}
+use Rattle.scratch.proofs.pooled.Runs.{Running, Full, run-start, gate-ends, mentions-slotted, filled, sampled, stack-room, chain-slotted, run-next, run-end}
 use Rattle.scratch.proofs.pooled.pool_slots.Statement.{statement}
 use Rattle.scratch.proofs.pooled.pool_slots.Tie as tie
 

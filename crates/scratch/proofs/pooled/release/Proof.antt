@@ -18,12 +18,6 @@ abbrev μ-loop : tie.MeasureT-loop
 bound : (c : tie.After-wide Inv-loop μ-loop) → c .wide .result < length (c .before .before .before .before .args .slots .now)
 bound c = omega (arith, c .wide .ensures, release-here (c .before .before .loop .inv) (omega arith))
 
-loop-again : tie.Need-loop-again Inv-loop μ-loop
-loop-again c = release-more (c .before .before .before .before .loop .inv) (omega arith) (c .before .before .wide .ensures) (omega arith)
-
-returns : tie.Need-returns Inv-loop μ-loop
-returns c = (release-done (c .before .loop .inv) (omega arith), omega arith, refl, c .before .loop .inv .stacked)
-
 pub release-spec : {M : Type 1} → statement M
 release-spec =
     tie.close
@@ -41,5 +35,5 @@ release-spec =
     (λ c. omega (arith, bound (c .before)))
     (λ c. search needs)
     (λ c. search needs)
-    loop-again
-    returns)
+    (λ c. release-more (c .before .before .before .before .loop .inv) (omega arith) (c .before .before .wide .ensures) (omega arith))
+    (λ c. (release-done (c .before .loop .inv) (omega arith), omega arith, refl, c .before .loop .inv .stacked)))

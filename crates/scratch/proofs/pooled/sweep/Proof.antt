@@ -1,6 +1,5 @@
 -- `pooled::sweep` meets its contract. Assumes nothing.
 use Prim.Native.Nat.{ℕ}
-use native.Mathlib.Omega.{arith}
 use mathlib.Core.Path.{ap, refl, _∙_}
 use lib.ListN.{length, replicate, length-replicate}
 use borrow.Author.Needs.{needs}
@@ -10,7 +9,7 @@ use Rattle.scratch.proofs.pooled.sweep.Statement.{statement}
 use Rattle.scratch.proofs.pooled.sweep.Tie as tie
 
 ok : (s : tie.Start) → let a = s .args in Good (length (a .marks .now)) (a .ends .now) (a .mentions .now) (a .marks .now) (a .slots .now)
-ok s = let a = s .args in good (length (a .marks .now)) (a .ends .now) (a .mentions .now) (a .marks .now) (a .slots .now) (s .pre)
+ok s = good _ _ _ _ _ (s .pre)
 
 order-deaths-requires : tie.Need-order-deaths-requires
 order-deaths-requires c κs =
@@ -20,9 +19,8 @@ order-deaths-requires c κs =
 pool-slots-requires : tie.Need-pool-slots-requires
 pool-slots-requires c κs =
     let k = c .before .before .before .before .before .before .before .before .before .before in
-    let s = k .before .before .before .before .before .before in
-    let a = s .args in (
-      accepted-slots (length (a .marks .now)) (a .ends .now) (a .mentions .now) (a .marks .now) (k .clear .last .0) (a .slots .now) (k .clear .kept .0) ∙ s .pre,
+    let s = k .before .before .before .before .before .before in (
+      accepted-slots _ _ _ _ _ _ (k .clear .kept .0) ∙ s .pre,
       k .clear .ensures ∙ ap (λ (n : ℕ). replicate n unslotted) (ok s .slotted),
       c .before .before .before .before .order-deaths .ensures,
     )
