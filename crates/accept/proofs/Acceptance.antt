@@ -34,7 +34,7 @@ and-accepted accepted at w e = (refl, e)
 and-accepted (refusal r o) at w e = absurd (clash r (at + o) e)
 
 -- the first instruction is whole and judged accepted, and so is what follows
-first-accepted : (rows : ℕ) (p : Parsed) (at : ℕ) (more : ℕ → Verdict) → firstThen rows p at more ≡ accepted
+pub first-accepted : (rows : ℕ) (p : Parsed) (at : ℕ) (more : ℕ → Verdict) → firstThen rows p at more ≡ accepted
     → (i : Inst) × (n : ℕ) × (p ≡ whole i n) × (judged rows i ≡ accepted) × (more n ≡ accepted)
 first-accepted rows (refused r o) at more e = absurd (clash r (at + o) e)
 first-accepted rows (whole i n) at more e = let h = and-accepted (judged rows i) at (more n) e in (i, n, refl, h .0, h .1)
@@ -95,7 +95,7 @@ walk-accepted k rows (i ∷ is) at s h =
 
 -- ---- the law
 
-limits : (s : List ℕ) (rows : ℕ) → checkOf s rows ≡ accepted → (rows ≤ 8192) × (length s ≤ 65536) × (walkFrom (length s) rows s 0 ≡ accepted)
+pub limits : (s : List ℕ) (rows : ℕ) → checkOf s rows ≡ accepted → (rows ≤ 8192) × (length s ≤ 65536) × (walkFrom (length s) rows s 0 ≡ accepted)
 unfolding checkOf
 limits s rows e = first (ltb 8192 rows) refl e
   where

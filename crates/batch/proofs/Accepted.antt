@@ -1,7 +1,7 @@
 -- The destinations of an accepted program are below the rows, so it leaves the registers past them alone; and so what a run leaves in the array is,
 -- column by column, each column's own run. Assumes nothing.
 use Prim.Native.Nat.{ℕ, zero, suc, _+_, _*_, _/_, _%_, _<_, _≤_}
-use mathlib.Core.Path.{_≡_, refl, sym, ap, ap₂, _∙_, subst, fun-ext}
+use mathlib.Core.Path.{_≡_, sym, ap, ap₂, _∙_, subst, fun-ext}
 use mathlib.Core.Bool.{Bool, true, false, cond}
 use mathlib.Core.Logic.{⊎-elim}
 use mathlib.Core.List.{List}
@@ -9,17 +9,17 @@ use native.Mathlib.Omega.{arith}
 use native.Mathlib.Decide.{decLt}
 use lib.ListN.{length, getD, drop, length-drop}
 use lib.Arith.{digits-div, digits-mod, digits-lt}
-use lib.Dec.{ltb}
 use borrow.Author.Tests.{not-false, ne-eqb}
 use Rattle.common.specs.Lists.{allBelow}
 use Rattle.common.proofs.Bools.{both}
 use Rattle.bytecode.specs.Instruction.{Inst}
-use Rattle.bytecode.specs.Parse.{Parsed, whole, refused, parse}
+use Rattle.bytecode.specs.Parse.{parse}
 use Rattle.bytecode.specs.Program.{programOf}
 use Rattle.bytecode.proofs.Tables.{settle}
 use Rattle.bytecode.proofs.Programs.{program-next, program-empty, whole-within}
-use Rattle.accept.specs.Check.{Verdict, accepted, refusal, judged, badRegister, andThen, firstThen, walkFrom, checkOf}
-use Rattle.accept.proofs.Soundness.{clash, faultless}
+use Rattle.accept.specs.Check.{accepted, judged, badRegister, walkFrom, checkOf}
+use Rattle.accept.proofs.Soundness.{faultless}
+use Rattle.accept.proofs.Acceptance.{first-accepted, limits}
 use Rattle.rows.specs.Column.{Col, column, tabulate, inStripe, onStripe}
 use Rattle.rows.specs.Working.{Across}
 use Rattle.rows.specs.declared.Stripe.{Stripe}
@@ -27,19 +27,6 @@ use Rattle.rows.proofs.Stripes.{column-at, column-past, length-tabulate, getD-t
 use Rattle.fill.proofs.Meanings.{Keeps, DestsBelow}
 
 -- ---- the destinations of an accepted program are below the rows
-
-passed : (t : Bool) (n o : ℕ) (v : Verdict) → cond t (refusal n o) v ≡ accepted → (t ≡ false) × (v ≡ accepted)
-passed true n o v e = absurd (clash n o e)
-passed false n o v e = (refl, e)
-
-and-then : (v : Verdict) (at : ℕ) (w : Verdict) → andThen v at w ≡ accepted → (v ≡ accepted) × (w ≡ accepted)
-and-then accepted at w e = (refl, e)
-and-then (refusal r o) at w e = absurd (clash r (at + o) e)
-
-first-then : (rows : ℕ) (p : Parsed) (at : ℕ) (more : ℕ → Verdict) → firstThen rows p at more ≡ accepted
-    → (i : Inst) × (n : ℕ) × (p ≡ whole i n) × (judged rows i ≡ accepted) × (more n ≡ accepted)
-first-then rows (refused r o) at more e = absurd (clash r (at + o) e)
-first-then rows (whole i n) at more e = let h = and-then (judged rows i) at (more n) e in (i, n, refl, h .0, h .1)
 
 judged-dests : (rows : ℕ) (i : Inst) → judged rows i ≡ accepted → allBelow rows (i .dests) ≡ true
 unfolding badRegister
@@ -52,7 +39,7 @@ walk-dests (suc k) rows s at h e =
     settle (length s) 0
     (λ z. rw (program-empty s z) tt)
     (λ z.
-    let f = first-then rows (parse s) at (λ n. walkFrom k rows (drop n s) (at + n)) (rw (ne-eqb (length s) 0 z) at e) in
+    let f = first-accepted rows (parse s) at (λ n. walkFrom k rows (drop n s) (at + n)) (rw (ne-eqb (length s) 0 z) at e) in
     let n = f .1 in
     rw (program-next s (f .0) n (f .2)) (
       judged-dests rows (f .0) (f .3),
@@ -60,11 +47,7 @@ walk-dests (suc k) rows s at h e =
     ))
 
 pub checked-dests : (s : List ℕ) (rows : ℕ) → checkOf s rows ≡ accepted → DestsBelow rows (programOf s)
-unfolding checkOf
-checked-dests s rows e =
-    let p = passed (ltb 8192 rows) 1 0 _ e in
-    let q = passed (ltb 65536 (length s)) 3 0 _ (p .1) in
-    walk-dests (length s) rows s 0 (omega arith) (q .1)
+checked-dests s rows e = walk-dests (length s) rows s 0 (omega arith) (limits s rows e .2)
 
 -- ---- where the registers past the rows are left alone, `onStripe` is `Across`: each column of the stripe is its own run, every other one as it was
 

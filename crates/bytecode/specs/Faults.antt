@@ -3,8 +3,8 @@
 use Prim.Native.Nat.{ℕ, _+_, _*_, _<_}
 use mathlib.Core.Path.{_≡_}
 use mathlib.Core.Logic.{_⊎_}
-use mathlib.Core.List.{List, [], _∷_, map}
-use mathlib.Core.Bool.{true, false}
+use mathlib.Core.List.{List, map}
+use mathlib.Core.Bool.{false}
 use lib.ListN.{length, getD}
 use Rattle.common.specs.Lists.{member}
 use Rattle.bytecode.specs.Opcode.{Line, table, shapeOf}

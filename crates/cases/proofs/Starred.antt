@@ -1,5 +1,5 @@
 -- The table of specs/Table.antt holds, by computation. Assumes nothing.
-use mathlib.Core.Path.{_≡_, refl}
+use mathlib.Core.Path.{refl}
 use Rattle.common.specs.Bits.{bitAt, word}
 use Rattle.common.specs.Halves.{halves}
 use Rattle.word.specs.Arithmetic.{sumWord, carryInto, carryWord, differenceWord, borrowFrom, borrowWord, highWord, lowWord}

@@ -1,13 +1,13 @@
 -- A decoded instruction's lists stand in its bytes. Assumes nothing.
-use mathlib.Core.Path.{_≡_, refl, sym, ap, _∙_}
-use mathlib.Core.List.{List, [], _∷_}
+use mathlib.Core.Path.{_≡_, sym, ap, _∙_}
+use mathlib.Core.List.{List}
 use Prim.Native.Nat.{ℕ, _+_, _*_, _≤_}
 use native.Mathlib.Omega.{arith}
 use lib.ListN.{length, getD, drop}
 use Rattle.bytecode.specs.Opcode.{shapeOf}
-use Rattle.bytecode.specs.Layout.{wordAt, words, sizeAs}
+use Rattle.bytecode.specs.Layout.{wordAt, sizeAs}
 use Rattle.bytecode.specs.Instruction.{Inst, inst}
-use Rattle.bytecode.specs.Parse.{Parsed, whole, parse, read, readAs}
+use Rattle.bytecode.specs.Parse.{whole, parse, readAs}
 use Rattle.bytecode.specs.declared.opcode.Shape.{Shape}
 use Rattle.bytecode.specs.declared.opcode.Shape.the-variants as S
 use Rattle.bytecode.specs.declared.layout.Size.the-variants.{Bytes}

@@ -1,5 +1,5 @@
 -- What a checked instruction gives to the row loops: its registers are rows, its amount fits, and a hint is one of the three. Assumes nothing.
-use mathlib.Core.Path.{_≡_, refl, sym, ap, _∙_, subst}
+use mathlib.Core.Path.{_≡_, refl, sym, ap, _∙_}
 use mathlib.Core.Bool.{true, false}
 use mathlib.Core.List.{List, [], _∷_}
 use Prim.Native.Nat.{ℕ, _+_, _*_, _-_, _<_, _≤_}
@@ -9,11 +9,10 @@ use lib.ListN.{length, take, drop}
 use borrow.Author.Tests.{lt-ltb, le-ltb}
 use Rattle.common.specs.Lists.{allBelow}
 use Rattle.common.proofs.Below.{below-head, below-tail}
-use Rattle.shift.specs.Variant.{widthOf, variantOf, badVariant, badAmount}
+use Rattle.shift.specs.Variant.{widthOf, variantOf, badAmount}
 use Rattle.shift.proofs.Codes.{let-by}
 use Rattle.bytecode.specs.Layout.{words}
 use Rattle.bytecode.specs.Instruction.{Inst, inst}
-use Rattle.bytecode.specs.declared.instruction.Instruction.{Instruction}
 use Rattle.bytecode.specs.declared.instruction.Instruction.the-variants as I
 use Rattle.bytecode.proofs.Words.{length-words}
 use Rattle.accept.specs.Sound.{Sound, Listed, divide, leadingZeros, mirror, FittingAmount}

@@ -4,7 +4,7 @@ use mathlib.Core.Path.{_≡_, refl, sym, ap, ap₂, _∙_, subst}
 use mathlib.Core.Bool.{Bool, true, false, cond}
 use mathlib.Core.Logic.{_⊎_}
 use mathlib.Core.List.{List, [], _∷_, _++_, map, append-assoc, append-nil}
-use Prim.Native.Nat.{ℕ, zero, suc, _+_, _*_, _<_, _≤_}
+use Prim.Native.Nat.{ℕ, suc, _+_, _*_, _<_, _≤_}
 use native.Mathlib.Nat.{le-refl}
 use native.Mathlib.Omega.{arith}
 use native.Mathlib.Numerals.{add-one}
@@ -12,7 +12,7 @@ use lib.ListN.{length, drop, length-append, length-drop}
 use lib.Seq.{drop-drop}
 use lib.Dec.{eqb}
 use Rattle.bytecode.specs.Instruction.{Inst}
-use Rattle.bytecode.specs.Parse.{Parsed, whole, refused, parse}
+use Rattle.bytecode.specs.Parse.{whole, refused, parse}
 use Rattle.bytecode.specs.Program.{programOf}
 use Rattle.bytecode.proofs.Programs.{program-next, program-none, program-empty, whole-within}
 use Rattle.accept.specs.Sound.{Sound, AllSound}

@@ -6,7 +6,6 @@ use lib.ListN.{length}
 use lib.Dec.{eqb, leb}
 use Rattle.refusal.specs.Number.{numberOf}
 use Rattle.refusal.specs.declared.Refusal.the-variants.{BadShape, BadCap}
-use Rattle.bytecode.specs.Instruction.{Inst}
 use Rattle.bytecode.specs.Program.{programOf}
 use Rattle.accept.specs.Check.{Verdict, accepted, refusal, checkOf}
 use Rattle.report.specs.Sizes.{maxWidth, maxCap, recordWords}

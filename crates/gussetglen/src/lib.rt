@@ -19,7 +19,7 @@ ghost use Rattle.report.specs.Told.{sideNumber};
 ghost use Rattle.fill.specs.Run.{answer, call, answerOf, valuesOf, bufferOf};
 ghost use Rattle.scratch.specs.Answer.{told, slotsAfter};
 ghost use Rattle.scratch.specs.Answer as Slots;
-ghost use Rattle.gussetglen.specs.Packing.{packedPool, packedRefusal, packedVerdict, packedFailing, packedStripe, packedAnswer, packedBatch, packedJoined, Fields, StripeFits, AnswerFits, BatchFits, stripeIn, batchIn};
+ghost use Rattle.gussetglen.specs.Packing.{packedPool, packedRefusal, packedVerdict, packedFailing, packedStripe, packedAnswer, packedBatch, Fields, StripeFits, AnswerFits, BatchFits, stripeIn, batchIn};
 ghost use Rattle.gussetglen.specs.Boundary.{raisedWord, joinedWord, policyOf};
 
 fn pack_refusal(refusal: Refusal, offset: usize) -> u64

@@ -1,7 +1,7 @@
 -- Laws of raising and joining: what each says in document 01's words; 12 and 13 exactly when; clean is the unit; one answer. Assumes nothing.
 use mathlib.Core.Path.{_≡_, refl, sym, ap, _∙_}
 use mathlib.Core.Bool.{Bool, true, false, cond}
-use mathlib.Core.List.{List, [], _∷_}
+use mathlib.Core.List.{[], _∷_}
 use Prim.Native.Nat.{ℕ, _+_, _≤_, _<_}
 use native.Mathlib.Omega.{arith}
 use native.Mathlib.Decide.{ℕ-discrete, decLt}
@@ -10,15 +10,14 @@ use borrow.Author.Tests.{eq-eqb, ne-eqb, lt-ltb, le-ltb}
 use Rattle.refusal.specs.declared.Refusal.{Refusal}
 use Rattle.refusal.specs.declared.Refusal.the-variants.{SamePosition, BadPosition}
 use Rattle.report.specs.Sizes.{maxWidth}
-use Rattle.report.specs.Join.{raised, joined, again, joinAll}
-use Rattle.report.specs.Told.{Told, given, refusal, raisedTold, joinedTold, stripeValues, batchValues, raising, joining}
+use Rattle.report.specs.Join.{raised, joined, joinAll}
+use Rattle.report.specs.Told.{given, refusal, raisedTold, joinedTold, stripeValues, batchValues, raising, joining}
 use Rattle.report.specs.declared.StripeReport.{StripeReport}
 use Rattle.report.specs.declared.StripeReport.the-variants as S
 use Rattle.report.specs.declared.BatchReport.{BatchReport}
 use Rattle.report.specs.declared.BatchReport.the-variants as B
 use Rattle.report.specs.declared.Raised.{Raised}
 use Rattle.report.specs.declared.Raised.the-variants as R
-use Rattle.report.specs.declared.Side.{Side}
 use Rattle.report.specs.declared.Side.the-variants.{Neither, Left, Right}
 use Rattle.report.specs.declared.Joined.{Joined}
 use Rattle.report.specs.declared.Joined.the-variants as J

@@ -9,11 +9,11 @@ use native.Mathlib.Omega.{arith}
 use native.Mathlib.Numerals.{add-one}
 use lib.ListN.{length, getD, take, drop, set, length-append, length-take}
 use lib.Seq.{take-all, take-nil, take-append-le, take-append-seam, sets, sets-eq, length-sets}
-use lib.Dec.{eqb, ltb}
+use lib.Dec.{ltb}
 use borrow.Author.Tests.{eq-eqb, ne-eqb, lt-ltb, le-ltb}
 use Rattle.report.specs.Sizes.{recordWords}
-use Rattle.report.specs.Records.{Lowest, clean, at, words, wordsOf, kept, reportOf, recordsOf}
-use Rattle.report.specs.Working.{Shows, lowOf, noteAt, Begins, pushed}
+use Rattle.report.specs.Records.{Lowest, clean, at, words, wordsOf, reportOf, recordsOf}
+use Rattle.report.specs.Working.{Shows, noteAt, Begins, pushed}
 use Rattle.report.specs.declared.record.Failure.{Failure}
 use Rattle.report.specs.declared.StripeReport.the-variants.{Clean as RClean, Failing}
 use Rattle.report.specs.declared.noting.Low.{Low}

@@ -6,14 +6,13 @@ use Prim.Native.Nat.{ℕ, zero, suc, _+_, _*_, _-_, _/_, _%_, _<_, _≤_}
 use native.Mathlib.Nat.{eq-or-lt-of-le, le-of-suc-le-suc, not-suc-le-zero, div-add-mod', mod-lt, mul-zero, add-assoc, suc-mul, mul-le-mul-right}
 use native.Mathlib.Decide.{ℕ-discrete, decLt}
 use native.Mathlib.Omega.{arith}
-use native.Mathlib.Numerals.{add-one}
 use lib.ListN.{length, getD, set, drop, length-set}
 use lib.Seq.{getD-set-same, getD-set-other, ext-getD}
-use lib.Arith.{digits-div, digits-mod, digits-lt}
-use mathlib.Core.Bool.{Bool, true, false, cond}
-use lib.Dec.{eqb, leb, ltb}
+use lib.Arith.{digits-div, digits-mod}
+use mathlib.Core.Bool.{true, false, cond}
+use lib.Dec.{eqb, ltb}
 use borrow.Author.Tests.{eq-eqb, ne-eqb, lt-ltb, le-ltb, le-leb, lt-leb}
-use Rattle.rows.specs.Column.{Col, place, registerAt, columnAt, column, store, stores, tabulate, inStripe, onStripe}
+use Rattle.rows.specs.Column.{Col, place, column, store, stores, tabulate, inStripe, onStripe}
 use Rattle.rows.specs.Working.{Within, InRow, Done, Across}
 use Rattle.rows.specs.declared.Stripe.{Stripe}
 

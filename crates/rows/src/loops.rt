@@ -3,7 +3,6 @@ use super::Stripe;
 use super::kind::shifted;
 use super::kind::word_of;
 use super::kind::words_of;
-ghost use mathlib.Core.Path.{_≡_};
 ghost use Prim.Native.Nat.{_<_};
 ghost use lib.ListN.{length};
 ghost use Rattle.shift.specs.Variant.{widthOf, shiftWord, variantOf};

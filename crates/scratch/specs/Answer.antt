@@ -10,7 +10,7 @@ use Rattle.scratch.specs.declared.Policy.the-variants.{PerWire, Pooled}
 use Rattle.scratch.specs.declared.Allocation.{Allocation}
 use Rattle.scratch.specs.declared.Allocation.the-variants.{Sized, Refused}
 use Rattle.scratch.specs.Gates.{gatesOf, scratch, among, peak}
-use Rattle.scratch.specs.Policies.{Pool, pooled, perWire}
+use Rattle.scratch.specs.Policies.{pooled, perWire}
 use Rattle.scratch.specs.Accept.{accepted}
 
 -- the number of an answer, 0 where it is accepted and else document 01's, and its values

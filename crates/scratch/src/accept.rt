@@ -1,6 +1,5 @@
 //! Refusal 14, BadGates.
 ghost use mathlib.Core.Path.{_≡_};
-ghost use lib.ListN.{length};
 ghost use Rattle.common.specs.Lists.{allBelow};
 ghost use Rattle.scratch.specs.Accept.{closes, accepted};
 use common::wide;

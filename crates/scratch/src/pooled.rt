@@ -8,7 +8,7 @@ ghost use lib.Seq.{slice};
 ghost use Rattle.common.specs.Lists.{member};
 ghost use Rattle.scratch.specs.Gates.{gatesOf, peak};
 ghost use Rattle.scratch.specs.Accept.{accepted};
-ghost use Rattle.scratch.specs.Policies.{Pool, unslotted, meets, meetAll, gives, dying, pooled};
+ghost use Rattle.scratch.specs.Policies.{unslotted, meets, meetAll, gives, dying, pooled};
 ghost use Rattle.scratch.specs.Working.{poolOf, chain, Within};
 use super::deaths::order_deaths;
 use common::wide;

@@ -1,7 +1,6 @@
 -- The loop ends: its turns fall. What is lent keeps its length.
 use mathlib.Core.Path.{_≡_}
 use borrow.Author.Needs.{needs}
-use native.Mathlib.Omega.{arith}
 use lib.ListN.{length}
 use Rattle.fill_answers.proofs.replay.Statement.{statement}
 use Rattle.fill_answers.proofs.replay.Tie as tie

@@ -1,6 +1,5 @@
 use Prim.Native.Nat.{_≤_, _-_}
 use borrow.Author.Needs.{needs}
-use native.Mathlib.Omega.{arith}
 use Rattle.fill_answers.proofs.row_agrees.Statement.{statement}
 use Rattle.fill_answers.proofs.row_agrees.Tie as tie
 
