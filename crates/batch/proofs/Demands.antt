@@ -156,6 +156,7 @@ parcel b buffer ok c h =
       alone-accepted = g;
       alone-words = alone-list b buffer f c;
       alone-answer = answer-is (aloneCall b buffer c) g ∙ ap (λ l. reports (reportOf (b .cap) l)) (alone-lowest b buffer f c);
+      alone-records = buffer-is (aloneCall b buffer c) g ∙ ap (λ l. recordsOf (b .cap) l buffer) (alone-lowest b buffer f c);
       alone-column = alone-filled b buffer f c;
       same-in-batch = whole-column b buffer f c h ∙ sym (alone-filled b buffer f c);
     }

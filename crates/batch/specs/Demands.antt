@@ -4,13 +4,13 @@ use mathlib.Core.Path.{_≡_}
 use mathlib.Core.List.{List, [], List·Permᴰ}
 use lib.ListN.{length, take}
 use Rattle.accept.specs.Check.{accepted}
-use Rattle.report.specs.Records.{words, failsAt, reportOf}
+use Rattle.report.specs.Records.{words, failsAt, reportOf, recordsOf}
 use Rattle.report.specs.Join.{Tree, joinTree, stands}
 use Rattle.report.specs.declared.record.Failure.{Failure}
 use Rattle.report.specs.declared.BatchReport.{BatchReport}
 use Rattle.report.specs.declared.BatchReport.the-variants as B
 use Rattle.rows.specs.Column.{column, tabulate}
-use Rattle.fill.specs.Run.{reports, verdictOf, answerOf, valuesOf}
+use Rattle.fill.specs.Run.{reports, verdictOf, answerOf, valuesOf, bufferOf}
 use Rattle.batch.specs.Cut.{Batch, Share, share}
 use Rattle.batch.specs.Batch.{wholeCall, arrayAfter, handed, handIn, handedIn, AllHanded, leaves, read, violationsOf, filledOf, aloneCall}
 
@@ -36,6 +36,7 @@ pub record Parcel (b : Batch) (buffer : List ℕ) (c : ℕ) : Type 0 where
   pub alone-accepted : verdictOf (aloneCall b buffer c) ≡ accepted
   pub alone-words : valuesOf (aloneCall b buffer c) ≡ tabulate (b .rows) (filledOf b c)
   pub alone-answer : answerOf (aloneCall b buffer c) ≡ reports (reportOf (b .cap) (failsAt 0 (violationsOf b c)))
+  pub alone-records : bufferOf (aloneCall b buffer c) ≡ recordsOf (b .cap) (failsAt 0 (violationsOf b c)) buffer
   pub alone-column : column (b .rows) 1 (valuesOf (aloneCall b buffer c)) 0 ≡ filledOf b c
   pub same-in-batch : column (b .rows) (b .width) (valuesOf (wholeCall b buffer)) c ≡ column (b .rows) 1 (valuesOf (aloneCall b buffer c)) 0
 

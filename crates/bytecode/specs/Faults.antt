@@ -1,5 +1,5 @@
 -- Document 01's table of refusals in its words, as far as the decoder gives them. The law that the decoder gives the lowest of
--- them, and an instruction where there is none, is `decoder-exactly` of proofs/. Assumes nothing.
+-- them, exactly then, is `decoder-exactly` of proofs/; which instruction it gives elsewhere is `parse-first`. Assumes nothing.
 use Prim.Native.Nat.{ℕ, _+_, _*_, _<_}
 use mathlib.Core.Path.{_≡_}
 use mathlib.Core.Logic.{_⊎_}

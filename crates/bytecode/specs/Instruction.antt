@@ -25,7 +25,7 @@ abbrev pub shiftBadVariant : Inst → Bool
 shiftBadVariant i = eqb (i .op) 0x10 && badVariant (getD (i .numbers) 0 0)
 
 -- what each case of the enum says, `s` being the bytes that it was decoded from: a BxorMulti and a hint carry counts, and
--- their registers stay in the bytes
+-- their lists stay in the bytes
 unfoldable pub inst : List ℕ → Instruction → Inst
 inst s (I.Band d a b) = make 0x01 (d ∷ []) (a ∷ b ∷ []) []
 inst s (I.Bor d a b) = make 0x02 (d ∷ []) (a ∷ b ∷ []) []

@@ -10,6 +10,7 @@ use Rattle.shift.specs.declared.ShiftVariant.the-variants.{Sar, Sll32, Sra32}
 use Rattle.bytecode.specs.Instruction.{make}
 use Rattle.bytecode.specs.Encode.{encode}
 use Rattle.bytecode.specs.Parse.{Parsed, whole, refused, parse}
+use Rattle.builder.specs.Call.{laid, band, bxorMulti}
 use Rattle.accept.specs.Check.{Verdict, accepted, refusal, checkOf}
 use Rattle.report.specs.Told.{Told as Said, stripeValues, raisedTold, joinedTold}
 use Rattle.report.specs.Join.{raised, joined}
@@ -112,9 +113,9 @@ table =
     -- Sra32 of 0x800000007FFFFFFF by 31: 0xFFFFFFFF00000000
     (shiftWord Sra32 31 0x800000007FFFFFFF ∷ []) is (0xFFFFFFFF00000000 ∷ []) ∷
     -- Band 5, 1, 2 emits 01 05000000 01000000 02000000
-    encode (make 0x01 (5 ∷ []) (1 ∷ 2 ∷ []) []) is bandBytes ∷
+    encode (laid (band 5 1 2)) is bandBytes ∷
     -- BxorMulti 7 with no sources: 06 07000000 00000000. Last byte missing: Truncated
-    encode (make 0x06 (7 ∷ []) [] []) is noSources ∷
+    encode (laid (bxorMulti 7 [])) is noSources ∷
     parsedAs (parse noSources) is (0 ∷ 9 ∷ []) ∷
     parsedAs (parse (take 8 noSources)) is (6 ∷ 0 ∷ []) ∷
     verdictOf (checkOf (take 8 noSources) 8) is (6 ∷ 0 ∷ []) ∷

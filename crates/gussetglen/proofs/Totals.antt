@@ -1,4 +1,4 @@
--- What a run answers fits the packing: a position below 4,096, a total of at most 7,281, at most 256 kept, and an offset within the program. Assumes nothing.
+-- What a run answers fits the packing, since a position is below 4,096, a total at most 7,281, kept at most 256, and an offset within the program. Assumes nothing.
 use mathlib.Core.Path.{_≡_, refl, ap}
 use mathlib.Core.Bool.{Bool, true, false, cond}
 use mathlib.Core.List.{List, [], _∷_}

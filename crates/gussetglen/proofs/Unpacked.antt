@@ -1,10 +1,11 @@
--- Unpacking gives back what was packed: each field of a failing report, reports of either kind, a joined report with its side, and a refusal
--- with its offset. Assumes nothing.
+-- Unpacking gives back what was packed: each field of a failing report, reports of either kind, a joined report with its side, a refusal
+-- with its offset, and a pool. Assumes nothing.
 use mathlib.Core.Path.{_≡_, refl}
 use Prim.Native.Nat.{ℕ, _+_, _*_, _^_, _<_}
 use native.Mathlib.Omega.{arith}
-use mathlib.Core.Bool.{cond}
-use lib.Dec.{eqb}
+use mathlib.Core.Bool.{Bool, true, false, cond}
+use mathlib.Core.List.{List}
+use lib.Dec.{eqb, lit<}
 use borrow.Author.Tests.{eq-eqb, ne-eqb}
 use Rattle.refusal.specs.Number.{numberOf}
 use Rattle.refusal.specs.declared.Refusal.{Refusal}
@@ -17,7 +18,11 @@ use Rattle.report.specs.declared.StripeReport.{StripeReport}
 use Rattle.report.specs.declared.StripeReport.the-variants as S
 use Rattle.report.specs.declared.BatchReport.{BatchReport}
 use Rattle.report.specs.declared.BatchReport.the-variants as B
-use Rattle.gussetglen.specs.Packing.{packedRefusal, packedFailing, packedStripe, packedBatch, numberIn, offsetIn, failingIn, positionIn, totalIn, keptIn, sideIn, stripeIn, batchIn, Fields, StripeFits, BatchFits}
+use Rattle.scratch.specs.Accept.{accepted}
+use Rattle.scratch.specs.Answer.{Told, answerOf}
+use Rattle.scratch.specs.declared.Policy.{Policy}
+use Rattle.scratch.proofs.Promises.{length-fits, peak-fits}
+use Rattle.gussetglen.specs.Packing.{packedRefusal, packedFailing, packedStripe, packedBatch, packedPool, numberIn, offsetIn, failingIn, positionIn, totalIn, keptIn, sideIn, lengthIn, peakIn, stripeIn, batchIn, Fields, StripeFits, BatchFits}
 
 -- ---- the fields of a failing report, with any side
 
@@ -79,3 +84,24 @@ module _ (r : Refusal) (offset : ℕ) where
 
   pub refusal-told : numberIn (packedRefusal (numberOf r) offset) ≡ 0 → ⊥
   refusal-told e = omega (arith, number-range r)
+
+-- a pool's answer, accepted or refused
+module _ (wires : ℕ) (ends mentions marks slots : List ℕ) (policy : Policy) where
+  abbrev pooled : Told
+  pooled = answerOf wires ends mentions marks slots policy
+
+  pool-fits : (pooled .number < 256) × (pooled .length < 2 ^ 16) × (pooled .peak < 2 ^ 16)
+  pool-fits = go (accepted wires ends mentions marks slots) refl
+    where
+      go : (t : Bool) → accepted wires ends mentions marks slots ≡ t → (pooled .number < 256) × (pooled .length < 2 ^ 16) × (pooled .peak < 2 ^ 16)
+      go true e = (rw e (lit< tt), omega (arith, length-fits wires ends mentions marks slots e policy), omega (arith, peak-fits wires ends mentions marks slots e policy))
+      go false e = (rw e (lit< tt), rw e (lit< tt), rw e (lit< tt))
+
+  pub pool-number-back : numberIn (packedPool pooled) ≡ pooled .number
+  pool-number-back = omega (arith, pool-fits)
+
+  pub length-back : lengthIn (packedPool pooled) ≡ pooled .length
+  length-back = omega (arith, pool-fits)
+
+  pub peak-back : peakIn (packedPool pooled) ≡ pooled .peak
+  peak-back = omega (arith, pool-fits)

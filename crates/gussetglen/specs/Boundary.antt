@@ -1,4 +1,4 @@
--- What each exported function answers. A word whose low byte is not 0 is a refusal, and comes back as it is. Assumes nothing.
+-- What raising and joining words answer, and the policy flag; check, run and pool answer their packing as it is. A word whose low byte is not 0 is a refusal, and comes back as it is. Assumes nothing.
 use Prim.Native.Nat.{ℕ}
 use mathlib.Core.Bool.{Bool, true, false, cond}
 use lib.Dec.{eqb}

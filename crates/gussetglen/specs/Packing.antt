@@ -96,7 +96,7 @@ batchIn word = cond (eqb (failingIn word) 0) B.Clean (B.Failing (batch (position
 
 -- ---- what the fields hold
 
--- a position of a batch, at most 512 kept and a total below 65,536
+-- a position of a batch, fewer than 512 kept and a total below 65,536
 pub record Fields (position total kept : ℕ) : Type 0 where
   pub position-fits : position < 2 ^ 12
   pub total-fits : total < 2 ^ 16

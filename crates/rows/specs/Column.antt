@@ -9,7 +9,7 @@ use lib.Dec.{eqb, ltb, leb}
 abbrev pub Col : Type 0
 Col = ℕ → ℕ
 
--- ---- where a word lies: row after row. Every definition that reads the array goes through these three
+-- ---- where a word lies: row after row. Every definition that reads a register of a column goes through these three
 
 -- the place of register r of column c
 abbrev pub place : ℕ → ℕ → ℕ → ℕ

@@ -1,4 +1,4 @@
-//! One loop for each number of destinations. The places of the rows are worked out before it; its body has no branch of its own.
+//! One loop for each number of destinations, and one for shifts, whose variant and amount are of the instruction. The places of the rows are worked out before it; its body has no branch of its own.
 use super::Stripe;
 use super::kind::shifted;
 use super::kind::word_of;

@@ -30,7 +30,8 @@ accepted wires ends mentions marks slots =
     && (allBelow wires mentions
     && (eqb (length marks) wires && eqb (length slots) wires)))))
 
--- the ways to be refused, one for each clause of the line of refusal 14: accepted is what has none of them (proofs/Promises.antt)
+-- the ways to be refused, one for each clause of the line of refusal 14, and mentions without gates: accepted is what has none of them
+-- (proofs/Refusals.antt)
 pub data Broken (wires : ℕ) (ends mentions marks slots : List ℕ) : Type 0 where
   manyWires : mostWires < wires → Broken wires ends mentions marks slots
   manyGates : mostGates < length ends → Broken wires ends mentions marks slots

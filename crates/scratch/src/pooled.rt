@@ -151,7 +151,7 @@ fn pool_slots(
     Swept { length, peak }
 }
 
-// The pooled slots, how many were taken, and the peak. The work arrays are local, 32 KiB each: three
+// The pooled slots, how many were taken, and the peak. The work arrays are local, some 32 KiB each: three
 // here, one in `order_deaths` and one in `pool_slots`, of which one at a time is in use.
 pub fn sweep(ends: &[u32], mentions: &[u32], marks: &[u8], slots: &mut [u32]) -> Swept
     requires { ⌜ accepted (length (now marks)) (now ends) (now mentions) (now marks) (now slots) ≡ true ⌝ }

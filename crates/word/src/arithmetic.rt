@@ -1,4 +1,4 @@
-// Add, subtract and multiply. A carry-in or borrow-in is passed as its word, of which the top bit counts.
+// Add, subtract and multiply. A carry-in or borrow-in is passed as its word, of which the top bit counts, by halves the top bit of each half.
 use common::halves::high;
 use common::halves::join;
 use common::halves::low;
