@@ -7,7 +7,6 @@
 // oracle/README.md how to make it anew.
 #![tactic(auto)]
 
-ghost use Rattle.std.specs.Borrow.{Bor};
 
 use accept::Checked;
 use answers::{Numbers, NumbersRead};

@@ -4,7 +4,6 @@
 // oracle/README.md how to make it anew. What hints 1 to 3 answer there is the harness's own.
 #![tactic(auto)]
 
-ghost use Rattle.std.specs.Borrow.{Bor};
 
 use answers::{Words, WordsRead};
 
