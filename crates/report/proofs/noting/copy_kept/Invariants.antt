@@ -1,5 +1,5 @@
--- `report::noting::copy_kept`'s loop: the first i words are at the front. Assumes nothing.
-use Rattle.std.proofs.Common.{◌-◌, ◌≡◌, ◌≤◌, ◌++◌, length, take, drop}
+-- `report::noting::copy_kept` meets its contract: a turn of the loop is one word more at the front. Assumes nothing.
+use Rattle.std.proofs.Common.{◌-◌, ◌≡◌, ◌≤◌, ◌++◌, take, drop}
 use Rattle.report.proofs.noting.copy_kept.Given as goal
 
 abbrev pub invariant-loop-i : goal.invariant-loop-i
