@@ -1,4 +1,4 @@
--- `crate::bitwise::bxor_multi` meets its contract. Assumes nothing.
+-- `word::bitwise::bxor_multi` meets its contract. Assumes nothing.
 use Rattle.std.proofs.Common.{◌≡◌, ℕ, ◌+◌, ◌<◌, List, ◌∷◌, length, get_or, drop, sym, ap, ◌∙◌, add-one, arith, drop-cons}
 use lib.Bits.{bit_xor, xor_zero_l, xor_zero_r}
 use lib.Seq.{drop-length}

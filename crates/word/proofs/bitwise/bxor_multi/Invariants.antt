@@ -1,4 +1,4 @@
--- `crate::bitwise::bxor_multi`'s loop: what is folded in, with the sources that are left, is the exclusive-or of all. Assumes nothing.
+-- `word::bitwise::bxor_multi`'s loop: what is folded in, with the sources that are left, is the exclusive-or of all. Assumes nothing.
 use Rattle.std.proofs.Common.{◌≡◌, drop}
 use lib.Bits.{bit_xor}
 use Rattle.word.specs.Bitwise.{xor_all}

@@ -1,4 +1,4 @@
--- `crate::hints::divide` meets its contract. Assumes nothing.
+-- `word::hints::divide` meets its contract. Assumes nothing.
 use Rattle.std.proofs.Common.{◌≡◌, ℕ, zero, suc, ◌/◌, ◌%◌, refl}
 use Rattle.word.specs.Hints.{quotient_of, remainder_of}
 use Rattle.word.proofs.hints.divide.Goals as goal

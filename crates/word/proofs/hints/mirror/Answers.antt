@@ -1,5 +1,5 @@
--- `crate::hints::mirror` meets its contract. Assumes nothing.
-use Rattle.std.proofs.Common.{◌≡◌, ℕ, zero, ◌+◌, ◌-◌, ◌<◌, ◌≤◌, List, reverse, length, get_or, set, sym, refl, ap, ◌∙◌, append-nil, zero-add, add-one, arith, drop_of_length-le, take_all, eq-eqb}
+-- `word::hints::mirror` meets its contract. Assumes nothing.
+use Rattle.std.proofs.Common.{◌≡◌, ℕ, zero, ◌+◌, ◌-◌, ◌<◌, List, reverse, length, get_or, set, sym, ap, ◌∙◌, append-nil, zero-add, add-one, arith, drop_of_length-le, take_all, eq-eqb}
 use lib.ListN.{length-reverse}
 use lib.Seq.{paste, paste-suc}
 use Rattle.word.specs.Hints.{mirrored}

@@ -1,4 +1,4 @@
--- `crate::hints::mirror`'s loop: the first j outputs are the first j of the inputs reversed, and the others are as they were. Assumes nothing.
+-- `word::hints::mirror`'s loop: the first j outputs are the first j of the inputs reversed, and the others are as they were. Assumes nothing.
 use Rattle.std.proofs.Common.{◌≡◌, reverse}
 use lib.Seq.{paste}
 use Rattle.word.proofs.hints.mirror.Given as goal
