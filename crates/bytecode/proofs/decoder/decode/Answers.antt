@@ -1,5 +1,5 @@
 -- `bytecode::decoder::decode` meets its contract: what is parsed, by the length. Assumes nothing.
-use Rattle.std.proofs.Common.{◌≡◌, ◌∙◌, sym, get_or, eq-eqb}
+use Rattle.std.proofs.Common.{◌∙◌, sym, get_or, eq-eqb}
 use borrow.Author.Tests.{lt-ltb, le-ltb}
 use Rattle.bytecode.specs.Opcode.{shape_of}
 use Rattle.bytecode.specs.Parse.{told, parse, sized}
