@@ -1,7 +1,6 @@
 -- `accept::registers::collides` meets its contract: what is left of the destinations decides, and within a turn what is left of the sources. Assumes nothing.
-use Rattle.std.proofs.Common.{◌≡◌, List, ℕ, refl, sym, ◌∙◌, eq-eqb}
+use Rattle.std.proofs.Common.{List, ℕ, refl, sym, ◌∙◌, eq-eqb}
 use borrow.Author.Tests.{ne_eqb}
-use Rattle.common.specs.Lists.{member}
 use Rattle.bytecode.specs.Layout.{words}
 use Rattle.accept.specs.Check.{overlap}
 use Rattle.accept.proofs.Left.{left, test_first, test_turn, test_more, test_last}
@@ -22,12 +21,10 @@ loop-k-preserved c =
 -- once the inner loop is done, no source is the destination
 pub dests-preserved : goal.dests-preserved
 unfolding left
-dests-preserved c =
-    (
-      c.loop-k.invariant.0 ∙ c.dests.invariant.0,
-      test_more c.dests.invariant.1 c.dests-test.true c.word-x.ensures
-      (rw (test_last c.loop-k.invariant.1 c.loop-k-test.false, sym c.has.ensures ∙ c.if-has.false)),
-    )
+dests-preserved c = (
+  c.loop-k.invariant.0 ∙ c.dests.invariant.0,
+  test_more c.dests.invariant.1 c.dests-test.true c.word-x.ensures (rw (test_last c.loop-k.invariant.1 c.loop-k-test.false, sym c.has.ensures ∙ c.if-has.false)),
+)
 
 pub returns-after-dests : goal.returns-after-dests
 returns-after-dests c = c.dests.invariant.0 ∙ sym (test_last c.dests.invariant.1 c.dests-test.false)
