@@ -1,15 +1,13 @@
 -- `builder::BytecodeBuilder::emit_hint` meets its contract: the dimensions, and then the room that is reserved, decide. Assumes nothing.
-use Rattle.std.proofs.Common.{ℕ, ◌≡◌, ◌+◌, ◌*◌, min, List, ◌∷◌, ◌++◌, length, true, false, refl, sym, ap, ◌∙◌, arith, length-append}
+use Rattle.std.proofs.Common.{ℕ, ◌≡◌, ◌+◌, ◌*◌, min, List, ◌∷◌, ◌++◌, length, refl, sym, ap, ◌∙◌, arith, length-append}
 use mathlib.Core.Bool.{not}
-use Rattle.common.specs.Lists.{all_below}
 use Rattle.bytecode.specs.Instruction.{make}
 use Rattle.bytecode.specs.Encode.{encode}
-use Rattle.builder.specs.Emit.{EmitsBytes}
 use Rattle.builder.specs.Working.{reserved}
 use Rattle.builder.specs.declared.BytecodeBuilder.{BytecodeBuilder}
 use Rattle.builder.specs.declared.Emitted.{Emitted}
 use Rattle.bytecode.proofs.Words.{length-les}
-use Rattle.builder.proofs.Room.{Roomy, granted, emitted, refused_room, judged, refused_dimension, capped}
+use Rattle.builder.proofs.Room.{granted, emitted, refused_room, judged, refused_dimension, capped}
 use Rattle.builder.proofs.BytecodeBuilder.emit_hint.Goals as goal
 
 abbrev laid : ℕ → List ℕ → List ℕ → List ℕ → List ℕ

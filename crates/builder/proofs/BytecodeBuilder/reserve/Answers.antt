@@ -1,7 +1,7 @@
 -- `builder::BytecodeBuilder::reserve` meets its contract. Assumes nothing.
 use Rattle.std.proofs.Common.{sym, ◌∙◌, arith}
 use Rattle.builder.specs.Working.{reserved}
-use Rattle.builder.proofs.Room.{Roomy, roomy}
+use Rattle.builder.proofs.Room.{roomy}
 use Rattle.builder.proofs.BytecodeBuilder.reserve.Goals as goal
 
 pub returns-then-lacks_room : goal.returns-then-lacks_room

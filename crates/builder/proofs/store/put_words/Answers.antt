@@ -1,5 +1,4 @@
 -- `builder::store::put_words` meets its contract: what was stored is one run of stores. Assumes nothing.
-use Rattle.std.proofs.Common.{arith}
 use Rattle.builder.proofs.Stores.{put_more}
 use Rattle.builder.proofs.store.put_words.Goals as goal
 
