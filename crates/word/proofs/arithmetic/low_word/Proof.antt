@@ -22,7 +22,7 @@ returns : tie.Need-returns
 returns c =
     let a = c.before.before.args.a in
     let b = c.before.before.args.b in
-    c.wrapping-add-u642.ensures ∙ ap (λ (n : ℕ). (n * 2 ^ 32 % 2 ^ 64 + lo a * lo b) % 2 ^ 64) c.before.wrapping-add-u64.ensures ∙ law a b
+    c.wrapping_add_u64.ensures ∙ ap (λ (n : ℕ). (n * 2 ^ 32 % 2 ^ 64 + lo a * lo b) % 2 ^ 64) c.before.wrapping_add_u64-crossed.ensures ∙ law a b
 
 pub low_word_spec : {M : Type 1} → statement M
 low_word_spec =
