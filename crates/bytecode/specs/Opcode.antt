@@ -1,5 +1,4 @@
 -- Document 01, "Instruction layout": the opcodes and how the fields after each are laid out. Assumes nothing.
-use Rattle.std.specs.Borrow.{Bor}
 use Rattle.std.specs.Prelude.{ℕ, List, [], ◌∷◌, cond, eqb}
 use Rattle.bytecode.specs.declared.opcode.Shape.{Shape}
 use Rattle.bytecode.specs.declared.opcode.Shape.TheVariants.{Unknown, NotCarried, Fixed, Shift, Many, Hint}

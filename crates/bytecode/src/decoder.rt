@@ -1,5 +1,4 @@
 //! The decoder: the instruction at the start of a part of the bytes.
-ghost use Rattle.std.specs.Borrow.{Bor};
 ghost use Rattle.std.specs.Prelude.{◌≡◌};
 ghost use Rattle.bytecode.specs.Opcode.{shape_of};
 ghost use Rattle.bytecode.specs.Instruction.{inst};

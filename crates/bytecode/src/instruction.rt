@@ -1,4 +1,3 @@
-ghost use Rattle.std.specs.Borrow.{Bor};
 //! A decoded instruction, by value.
 
 // A case for each carried opcode, by the Rust's names, with the fields in layout order. BxorMulti and Hint carry counts:

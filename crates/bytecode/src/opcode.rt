@@ -1,5 +1,4 @@
 //! The opcode bytes, and how the fields after each are laid out.
-ghost use Rattle.std.specs.Borrow.{Bor};
 ghost use Rattle.std.specs.Prelude.{◌≡◌};
 ghost use Rattle.bytecode.specs.Opcode.{shape_of};
 

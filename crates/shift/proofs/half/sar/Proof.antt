@@ -10,10 +10,10 @@ use Rattle.shift.proofs.half.sar.Tie as tie
 returns : tie.Need-returns
 unfolding sar
 returns c =
-    let t = c.before.before.to-i32 in
-    let f = c.before.floor-i32 in
+    let t = c.before.before.to_i32 in
+    let f = c.before.floor_i32 in
     let a = c.before.before.before.args in
-    through w32 a.x (2 ^ a.n) (record { sfits = t.type-inv }) (record { sfits = f.type-inv }) t.ensures f.ensures c.from-i32.ensures
+    through w32 a.x (2 ^ a.n) (record { sfits = t.type_inv }) (record { sfits = f.type_inv }) t.ensures f.ensures c.from_i32.ensures
 
 pub sar_spec : {M : Type 1} → statement M
 sar_spec = tie.close (tie.spec (λ c κs. search rules) (λ c κs. search rules) (λ c κs. search rules) returns)

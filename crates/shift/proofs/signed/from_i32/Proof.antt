@@ -8,7 +8,7 @@ pub from_i32_spec : {M : Type 1} → statement M
 from_i32_spec =
     tie.close
     (tie.spec
-    (λ c. flip_fits w32 c.before.args.z c.before.ranges.z c.if1.true)
-    (λ c. keep_fits w32 c.before.args.z c.before.ranges.z c.if1.false)
-    (λ c. flip_is w32 c.before.args.z c.before.ranges.z c.if1.true)
-    (λ c. keep_is w32 c.before.args.z c.before.ranges.z c.if1.false))
+    (λ c. flip_fits w32 c.before.args.z c.before.ranges.z c.if-z-lt0.true)
+    (λ c. keep_fits w32 c.before.args.z c.before.ranges.z c.if-z-lt0.false)
+    (λ c. flip_is w32 c.before.args.z c.before.ranges.z c.if-z-lt0.true)
+    (λ c. keep_is w32 c.before.args.z c.before.ranges.z c.if-z-lt0.false))

@@ -8,7 +8,7 @@ pub from_i64_spec : {M : Type 1} → statement M
 from_i64_spec =
     tie.close
     (tie.spec
-    (λ c. flip_fits w64 c.before.args.z c.before.ranges.z c.if1.true)
-    (λ c. keep_fits w64 c.before.args.z c.before.ranges.z c.if1.false)
-    (λ c. flip_is w64 c.before.args.z c.before.ranges.z c.if1.true)
-    (λ c. keep_is w64 c.before.args.z c.before.ranges.z c.if1.false))
+    (λ c. flip_fits w64 c.before.args.z c.before.ranges.z c.if-z-lt0.true)
+    (λ c. keep_fits w64 c.before.args.z c.before.ranges.z c.if-z-lt0.false)
+    (λ c. flip_is w64 c.before.args.z c.before.ranges.z c.if-z-lt0.true)
+    (λ c. keep_is w64 c.before.args.z c.before.ranges.z c.if-z-lt0.false))

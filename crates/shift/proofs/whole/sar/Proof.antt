@@ -10,10 +10,10 @@ use Rattle.shift.proofs.whole.sar.Tie as tie
 returns : tie.Need-returns
 unfolding sar
 returns c =
-    let t = c.before.before.to-i64 in
-    let f = c.before.floor-i64 in
+    let t = c.before.before.to_i64 in
+    let f = c.before.floor_i64 in
     let a = c.before.before.before.args in
-    through w64 a.x (2 ^ a.n) (record { sfits = t.type-inv }) (record { sfits = f.type-inv }) t.ensures f.ensures c.from-i64.ensures
+    through w64 a.x (2 ^ a.n) (record { sfits = t.type_inv }) (record { sfits = f.type_inv }) t.ensures f.ensures c.from_i64.ensures
 
 pub sar_spec : {M : Type 1} → statement M
 sar_spec = tie.close (tie.spec (λ c κs. search rules) (λ c κs. search rules) (λ c κs. search rules) returns)
