@@ -14,7 +14,7 @@ use common::wide;
 pub const UNSLOTTED: u32 = 4294967295;
 
 // How high the stack of free slots is, and how many slots were ever taken.
-#[derive(Drop)]
+#[derive(Clone, Copy)]
 pub struct Level {
     pub top: usize,
     pub size: u32,
