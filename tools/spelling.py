@@ -24,6 +24,8 @@ STD = set(
 # Definitions whose new names a lemma has, which then is the one that gets another name; or which stand in no file together.
 LEMMAS = {"listed_by": "listed_by_lem", "no_room": "no_room_lem", "not_listed": "not_listed_lem"}
 APART = {"allRight", "inOrder", "listedBy", "noRoom", "notListed", "perWire"}
+# Constructors that stand on one line.
+TOGETHER = {"assertZero": "assert_zero", "assertNonZero": "assert_non_zero", "assertFalse": "assert_false", "assertTrue": "assert_true"}
 MADE = re.compile(r"^(returns|invariant|decreases|loop|overflow|bounds|nonzero|cast)-|-requires(-\d+)?$|^(dests|columns)-(again|holds|next)$")
 
 
@@ -78,7 +80,7 @@ def main():
     taken = set(re.findall(r"(?<!\.)(?<![\w\-'])" + WORD, code))
     functions = set(re.findall(r"\bfn (\w+)", "\n".join(read(path) for path in files(".rt"))))
     words = STD | {snake(name) for name, spec in declared.items() if spec and "-" not in name} | functions
-    renamed = dict(LEMMAS)
+    renamed = LEMMAS | TOGETHER
     for name in sorted(declared, key=lambda n: ("-" in n, n)):
         if MADE.search(name) or not re.search(r"-|[a-z0-9][A-Z]", name) or not re.match(r"^[a-z]", name):
             continue

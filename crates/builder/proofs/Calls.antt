@@ -32,10 +32,10 @@ use Rattle.builder.specs.Call.{
   iadd32_cout,
   assert_eq,
   assert_eq_cond,
-  assertZero,
-  assertNonZero,
-  assertFalse,
-  assertTrue,
+  assert_zero,
+  assert_non_zero,
+  assert_false,
+  assert_true,
   hint,
 }
 use Rattle.builder.specs.Emit.{bad_dimension}
@@ -58,10 +58,10 @@ Typed (iadd32_cin_cout a b c d e) = all_below (2 ^ 32) (a ∷ b ∷ c ∷ d ∷ 
 Typed (iadd32_cout a b c d) = all_below (2 ^ 32) (a ∷ b ∷ c ∷ d ∷ []) ≡ true
 Typed (assert_eq a b c) = all_below (2 ^ 32) (a ∷ b ∷ c ∷ []) ≡ true
 Typed (assert_eq_cond a b c d) = all_below (2 ^ 32) (a ∷ b ∷ c ∷ d ∷ []) ≡ true
-Typed (assertZero a b) = all_below (2 ^ 32) (a ∷ b ∷ []) ≡ true
-Typed (assertNonZero a b) = all_below (2 ^ 32) (a ∷ b ∷ []) ≡ true
-Typed (assertFalse a b) = all_below (2 ^ 32) (a ∷ b ∷ []) ≡ true
-Typed (assertTrue a b) = all_below (2 ^ 32) (a ∷ b ∷ []) ≡ true
+Typed (assert_zero a b) = all_below (2 ^ 32) (a ∷ b ∷ []) ≡ true
+Typed (assert_non_zero a b) = all_below (2 ^ 32) (a ∷ b ∷ []) ≡ true
+Typed (assert_false a b) = all_below (2 ^ 32) (a ∷ b ∷ []) ≡ true
+Typed (assert_true a b) = all_below (2 ^ 32) (a ∷ b ∷ []) ≡ true
 Typed (hint id dims ins outs) = (id < 2 ^ 32) × (all_below (2 ^ 32) ins ≡ true) × (all_below (2 ^ 32) outs ≡ true)
 
 -- ---- what the emitters let through is formed
@@ -102,10 +102,10 @@ call_formed (iadd32_cin_cout a b c d e) t v m h = parted (laid (iadd32_cin_cout 
 call_formed (iadd32_cout a b c d) t v m h = parted (laid (iadd32_cout a b c d)) (refl, refl, refl) t
 call_formed (assert_eq a b c) t v m h = parted (laid (assert_eq a b c)) (refl, refl, refl) t
 call_formed (assert_eq_cond a b c d) t v m h = parted (laid (assert_eq_cond a b c d)) (refl, refl, refl) t
-call_formed (assertZero a b) t v m h = parted (laid (assertZero a b)) (refl, refl, refl) t
-call_formed (assertNonZero a b) t v m h = parted (laid (assertNonZero a b)) (refl, refl, refl) t
-call_formed (assertFalse a b) t v m h = parted (laid (assertFalse a b)) (refl, refl, refl) t
-call_formed (assertTrue a b) t v m h = parted (laid (assertTrue a b)) (refl, refl, refl) t
+call_formed (assert_zero a b) t v m h = parted (laid (assert_zero a b)) (refl, refl, refl) t
+call_formed (assert_non_zero a b) t v m h = parted (laid (assert_non_zero a b)) (refl, refl, refl) t
+call_formed (assert_false a b) t v m h = parted (laid (assert_false a b)) (refl, refl, refl) t
+call_formed (assert_true a b) t v m h = parted (laid (assert_true a b)) (refl, refl, refl) t
 call_formed (hint id dims ins outs) t v m h =
     let s = short_hint id dims ins outs h in
     record { shape = (omega arith, s.0, s.1, s.2); dests = t.2; sources = t.1; numbers = below-cons (2 ^ 32) id dims t.0 (not-false _ m) }
@@ -129,8 +129,8 @@ case_call (iadd32_cin_cout a b c d e) = refl
 case_call (iadd32_cout a b c d) = refl
 case_call (assert_eq a b c) = refl
 case_call (assert_eq_cond a b c d) = refl
-case_call (assertZero a b) = refl
-case_call (assertNonZero a b) = refl
-case_call (assertFalse a b) = refl
-case_call (assertTrue a b) = refl
+case_call (assert_zero a b) = refl
+case_call (assert_non_zero a b) = refl
+case_call (assert_false a b) = refl
+case_call (assert_true a b) = refl
 case_call (hint id dims ins outs) = refl

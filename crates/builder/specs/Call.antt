@@ -19,7 +19,7 @@ pub data Call : Type 0 where
   iadd32_cout : ℕ → ℕ → ℕ → ℕ → Call
   assert_eq : ℕ → ℕ → ℕ → Call
   assert_eq_cond : ℕ → ℕ → ℕ → ℕ → Call
-  assertZero assertNonZero assertFalse assertTrue : ℕ → ℕ → Call
+  assert_zero assert_non_zero assert_false assert_true : ℕ → ℕ → Call
   hint : ℕ → List ℕ → List ℕ → List ℕ → Call
 
 -- the instruction that is laid
@@ -39,10 +39,10 @@ laid (iadd32_cin_cout d e a b c) = make 0x40 (d ∷ e ∷ []) (a ∷ b ∷ c ∷
 laid (iadd32_cout d e a b) = make 0x46 (d ∷ e ∷ []) (a ∷ b ∷ []) []
 laid (assert_eq a b p) = make 0x60 [] (a ∷ b ∷ []) (p ∷ [])
 laid (assert_eq_cond c a b p) = make 0x61 [] (c ∷ a ∷ b ∷ []) (p ∷ [])
-laid (assertZero a p) = make 0x62 [] (a ∷ []) (p ∷ [])
-laid (assertNonZero a p) = make 0x63 [] (a ∷ []) (p ∷ [])
-laid (assertFalse a p) = make 0x64 [] (a ∷ []) (p ∷ [])
-laid (assertTrue a p) = make 0x65 [] (a ∷ []) (p ∷ [])
+laid (assert_zero a p) = make 0x62 [] (a ∷ []) (p ∷ [])
+laid (assert_non_zero a p) = make 0x63 [] (a ∷ []) (p ∷ [])
+laid (assert_false a p) = make 0x64 [] (a ∷ []) (p ∷ [])
+laid (assert_true a p) = make 0x65 [] (a ∷ []) (p ∷ [])
 laid (hint id dims ins outs) = make 0x80 outs ins (id ∷ dims)
 
 -- the case that decodes it
@@ -62,10 +62,10 @@ case_of (iadd32_cin_cout d e a b c) = I.Iadd32CinCout d e a b c
 case_of (iadd32_cout d e a b) = I.Iadd32Cout d e a b
 case_of (assert_eq a b p) = I.AssertEq a b p
 case_of (assert_eq_cond c a b p) = I.AssertEqCond c a b p
-case_of (assertZero a p) = I.AssertZero a p
-case_of (assertNonZero a p) = I.AssertNonZero a p
-case_of (assertFalse a p) = I.AssertFalse a p
-case_of (assertTrue a p) = I.AssertTrue a p
+case_of (assert_zero a p) = I.AssertZero a p
+case_of (assert_non_zero a p) = I.AssertNonZero a p
+case_of (assert_false a p) = I.AssertFalse a p
+case_of (assert_true a p) = I.AssertTrue a p
 case_of (hint id dims ins outs) = I.Hint id (length dims) (length ins) (length outs)
 
 -- the emitter of a decoded instruction, with its fields as arguments, `s` being the bytes that it was decoded from
@@ -85,8 +85,8 @@ call_of s (I.Iadd32CinCout d e a b c) = iadd32_cin_cout d e a b c
 call_of s (I.Iadd32Cout d e a b) = iadd32_cout d e a b
 call_of s (I.AssertEq a b p) = assert_eq a b p
 call_of s (I.AssertEqCond c a b p) = assert_eq_cond c a b p
-call_of s (I.AssertZero a p) = assertZero a p
-call_of s (I.AssertNonZero a p) = assertNonZero a p
-call_of s (I.AssertFalse a p) = assertFalse a p
-call_of s (I.AssertTrue a p) = assertTrue a p
+call_of s (I.AssertZero a p) = assert_zero a p
+call_of s (I.AssertNonZero a p) = assert_non_zero a p
+call_of s (I.AssertFalse a p) = assert_false a p
+call_of s (I.AssertTrue a p) = assert_true a p
 call_of s (I.Hint id d i o) = hint id (words s 9 d) (words s (17 + 4 * d) i) (words s (17 + 4 * (d + i)) o)

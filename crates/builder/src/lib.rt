@@ -22,10 +22,10 @@ ghost use Rattle.builder.specs.Call.{
   iadd32_cout,
   assert_eq,
   assert_eq_cond,
-  assertZero,
-  assertNonZero,
-  assertFalse,
-  assertTrue,
+  assert_zero,
+  assert_non_zero,
+  assert_false,
+  assert_true,
   hint,
 };
 ghost use Rattle.builder.specs.Emit.{fresh, no_room, EmitsBytes, Emits};
@@ -36,7 +36,7 @@ use store::{put_fields, put_hint, put_multi, put_shift};
 
 // Bytes written so far, and instructions emitted. The builder moves by value through each emit, and a refusal hands it back
 // as it was.
-#[derive(Drop)]
+#[derive(Clone, Copy)]
 pub struct BytecodeBuilder {
     pub len: usize,
     pub count: usize,
@@ -292,28 +292,28 @@ impl BytecodeBuilder {
     }
 
     pub fn emit_assert_zero(self, buf: &mut [u8], src: u32, path: u32) -> Emitted
-        ensures { Emits (assertZero src path) self buf.old result buf.new }
+        ensures { Emits (assert_zero src path) self buf.old result buf.new }
     {
         let ws = [src, path];
         self.emit_fields(buf, 0x62, &ws)
     }
 
     pub fn emit_assert_non_zero(self, buf: &mut [u8], src: u32, path: u32) -> Emitted
-        ensures { Emits (assertNonZero src path) self buf.old result buf.new }
+        ensures { Emits (assert_non_zero src path) self buf.old result buf.new }
     {
         let ws = [src, path];
         self.emit_fields(buf, 0x63, &ws)
     }
 
     pub fn emit_assert_false(self, buf: &mut [u8], src: u32, path: u32) -> Emitted
-        ensures { Emits (assertFalse src path) self buf.old result buf.new }
+        ensures { Emits (assert_false src path) self buf.old result buf.new }
     {
         let ws = [src, path];
         self.emit_fields(buf, 0x64, &ws)
     }
 
     pub fn emit_assert_true(self, buf: &mut [u8], src: u32, path: u32) -> Emitted
-        ensures { Emits (assertTrue src path) self buf.old result buf.new }
+        ensures { Emits (assert_true src path) self buf.old result buf.new }
     {
         let ws = [src, path];
         self.emit_fields(buf, 0x65, &ws)

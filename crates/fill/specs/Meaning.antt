@@ -1,5 +1,4 @@
 -- The meaning of a program, on one column: document 01, "Word rules" and "Assertions and reports". It knows of no width, stripe or cap. Assumes nothing.
-use Rattle.std.specs.Borrow.{Bor}
 use Rattle.std.specs.Prelude.{ℕ, suc, Bool, cond, List, [], ◌∷◌, ◌++◌, map, reverse, get_or, eqb}
 use Rattle.std.specs.Int.Bits.{bit_and, bit_or, bit_xor}
 use Rattle.common.specs.Bits.{bit_at}

@@ -1,5 +1,4 @@
 //! Assertions: a scan for the first column of the stripe that violates, which alone can matter, and its record.
-ghost use Rattle.std.specs.Borrow.{Bor};
 ghost use Rattle.std.specs.Prelude.{◌≡◌, ◌+◌, ◌*◌, ◌<◌, ◌≤◌, ◌^◌, length};
 ghost use Rattle.report.specs.Sizes.{max_cap};
 ghost use Rattle.report.specs.Working.{Small};

@@ -1,5 +1,4 @@
 //! What an instruction writes, in every column of the stripe.
-ghost use Rattle.std.specs.Borrow.{Bor};
 ghost use Rattle.std.specs.Prelude.{◌≡◌, ◌*◌, length};
 ghost use Rattle.bytecode.specs.Instruction.{inst};
 ghost use Rattle.bytecode.specs.declared.instruction.Instruction.TheVariants.{Hint};
