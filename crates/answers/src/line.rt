@@ -5,7 +5,7 @@ ghost use Rattle.std.specs.Prelude.{◌≡◌, ◌%◌, ◌<◌, take, drop};
 ghost use Rattle.answers.specs.Hex.{digit_of, spelled};
 ghost use Rattle.answers.specs.Line.{is_digit, is_right, all_right, is_line, words_of, numbers_of};
 
-#[derive(Drop)]
+#[derive(Clone, Copy)]
 pub struct Words {
     pub code: u8,
     pub a: u64,
@@ -15,7 +15,7 @@ pub struct Words {
     pub e: u64,
 }
 
-#[derive(Drop)]
+#[derive(Clone, Copy)]
 pub struct Numbers {
     pub code: u8,
     pub a: u32,

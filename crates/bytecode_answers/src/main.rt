@@ -7,7 +7,6 @@
 // oracle/README.md how to make it anew.
 #![tactic(auto)]
 
-
 use accept::Checked;
 use answers::{Numbers, NumbersRead};
 use builder::{BytecodeBuilder, Emitted};
@@ -15,6 +14,8 @@ use bytecode::decoder::Decoded;
 use bytecode::instruction::Instruction;
 use common::wide;
 use refusal::Refusal;
+use std::io;
+use std::io::Read;
 
 // What one line makes of the builder of the program at hand, or that there was none.
 #[derive(Drop)]
@@ -303,68 +304,81 @@ fn end(builder: BytecodeBuilder, line: Numbers, given: &[u8], tally: &mut [u64])
 
 // One line.
 fn turn(
+    input: &mut impl Read,
     builder: BytecodeBuilder,
     given: &mut [u8],
     mine: &mut [u8],
     list: &mut [u32],
     tally: &mut [u64],
-) -> Step {
-    let NumbersRead::Line(line) = answers::read_numbers() else {
-        return Step::Over;
+) -> io::Result<Step> {
+    let NumbersRead::Line(line) = answers::read_numbers(input)? else {
+        return Ok(Step::Over);
     };
     let code = line.code;
-    match code {
+    let next = match code {
         0x00 => {
             put_numbers(line, list);
-            Step::Next(builder)
+            builder
         }
         0xff => {
             put_bytes(line, given);
-            Step::Next(builder)
+            builder
         }
         0xfd => {
             answers::note(tally, VARIANT, lacks_variant(builder, line, mine));
-            Step::Next(builder)
+            builder
         }
         0xfe => {
             end(builder, line, given, tally);
-            Step::Next(BytecodeBuilder::new())
+            BytecodeBuilder::new()
         }
-        _ => Step::Next(call(builder, line, given, mine, list, tally)),
-    }
+        _ => call(builder, line, given, mine, list, tally),
+    };
+    Ok(Step::Next(next))
 }
 
-// A proved loop has to end, and nothing says that the list does: so turns are counted down.
-fn replay(given: &mut [u8], mine: &mut [u8], list: &mut [u32], tally: &mut [u64]) {
+// A proved loop has to end, and nothing says that the list does: so turns are counted.
+fn replay(
+    input: &mut impl Read,
+    given: &mut [u8],
+    mine: &mut [u8],
+    list: &mut [u32],
+    tally: &mut [u64],
+) -> io::Result<()> {
     let mut builder = BytecodeBuilder::new();
-    let mut turns = u64::MAX;
-    while turns > 0 {
-        let Step::Next(next) = turn(builder, given, mine, list, tally) else {
-            return;
+    for _ in 0..u64::MAX {
+        let Step::Next(next) = turn(input, builder, given, mine, list, tally)? else {
+            break;
         };
         builder = next;
-        turns -= 1;
     }
+    Ok(())
 }
 
-fn results(tally: &[u64]) {
-    answers::tell(b"lengths and counts", tally, ENDED);
-    answers::tell(b"accepted", tally, ACCEPTED);
-    answers::tell(b"emitted", tally, EMITTED);
-    answers::tell(b"decoded", tally, DECODED);
-    answers::tell(b"no room", tally, ROOM);
-    answers::tell(b"no such variant", tally, VARIANT);
-    answers::tell(b"dimension too large", tally, DIMENSION);
-    answers::tell(b"no bytes", tally, BYTES);
+fn results(rt: &impl Print, tally: &[u64]) -> io::Result<()> {
+    answers::tell(rt, "lengths and counts", tally, ENDED)?;
+    answers::tell(rt, "accepted", tally, ACCEPTED)?;
+    answers::tell(rt, "emitted", tally, EMITTED)?;
+    answers::tell(rt, "decoded", tally, DECODED)?;
+    answers::tell(rt, "no room", tally, ROOM)?;
+    answers::tell(rt, "no such variant", tally, VARIANT)?;
+    answers::tell(rt, "dimension too large", tally, DIMENSION)?;
+    answers::tell(rt, "no bytes", tally, BYTES)
 }
 
-fn main() {
+fn main(rt: HostRuntime) -> io::Result<()> {
     let mut given = [0u8; 8192];
     let mut mine = [0u8; 8192];
     let mut list = [0u32; 128];
     let mut tally = [0u64; 16];
     answers::note(&mut tally, DIMENSION, large_dimension(&mut mine));
     answers::note(&mut tally, BYTES, no_bytes(&given));
-    replay(&mut given, &mut mine, &mut list, &mut tally);
-    results(&tally);
+    replay(
+        &mut rt.reader(),
+        &mut given,
+        &mut mine,
+        &mut list,
+        &mut tally,
+    )?;
+    results(&rt, &tally)
 }

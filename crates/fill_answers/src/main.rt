@@ -11,6 +11,8 @@ use common::halves::{high, low};
 use common::wide;
 use fill::Ran;
 use report::StripeReport;
+use std::io;
+use std::io::Read;
 
 // Where the tally has each kind of case.
 const REPORTS: u32 = 0;
@@ -25,7 +27,7 @@ const ROWS: u32 = 6;
 const BEFORE: u64 = 0x5a5a_5a5a_5a5a_5a5a;
 
 // What the last run answered.
-#[derive(Drop)]
+#[derive(Clone, Copy)]
 pub struct Last {
     pub refused: bool,
     pub failing: bool,
@@ -274,48 +276,60 @@ fn other_line(
 
 // One line.
 fn turn(
+    input: &mut impl Read,
     last: Last,
     code: &mut [u8],
     values: &mut [u64],
     report: &mut [u64],
     tally: &mut [u64],
-) -> Step {
-    let WordsRead::Line(line) = answers::read_words() else {
-        return Step::Over;
+) -> io::Result<Step> {
+    let WordsRead::Line(line) = answers::read_words(input)? else {
+        return Ok(Step::Over);
     };
     if line.code == 0x10 {
         clear(report);
-        return Step::Next(run(line, code, values, report));
+        return Ok(Step::Next(run(line, code, values, report)));
     }
     other_line(last, line, code, values, report, tally);
-    Step::Next(last)
+    Ok(Step::Next(last))
 }
 
-// A proved loop has to end, and nothing says that the list does: so turns are counted down.
-fn replay(code: &mut [u8], values: &mut [u64], report: &mut [u64], tally: &mut [u64]) {
+// A proved loop has to end, and nothing says that the list does: so turns are counted.
+fn replay(
+    input: &mut impl Read,
+    code: &mut [u8],
+    values: &mut [u64],
+    report: &mut [u64],
+    tally: &mut [u64],
+) -> io::Result<()> {
     let mut last = refused();
-    let mut turns = u64::MAX;
-    while turns > 0 {
-        let Step::Next(next) = turn(last, code, values, report, tally) else {
-            return;
+    for _ in 0..u64::MAX {
+        let Step::Next(next) = turn(input, last, code, values, report, tally)? else {
+            break;
         };
         last = next;
-        turns -= 1;
     }
+    Ok(())
 }
 
-fn results(tally: &[u64]) {
-    answers::tell(b"reports", tally, REPORTS);
-    answers::tell(b"records", tally, RECORDS);
-    answers::tell(b"words", tally, WORDS);
-    answers::tell(b"rows", tally, ROWS);
+fn results(rt: &impl Print, tally: &[u64]) -> io::Result<()> {
+    answers::tell(rt, "reports", tally, REPORTS)?;
+    answers::tell(rt, "records", tally, RECORDS)?;
+    answers::tell(rt, "words", tally, WORDS)?;
+    answers::tell(rt, "rows", tally, ROWS)
 }
 
-fn main() {
+fn main(rt: HostRuntime) -> io::Result<()> {
     let mut code = [0u8; 4096];
     let mut values = [0u64; 16384];
     let mut report = [0u64; 768];
     let mut tally = [0u64; 8];
-    replay(&mut code, &mut values, &mut report, &mut tally);
-    results(&tally);
+    replay(
+        &mut rt.reader(),
+        &mut code,
+        &mut values,
+        &mut report,
+        &mut tally,
+    )?;
+    results(&rt, &tally)
 }

@@ -8,6 +8,8 @@
 use answers::{Numbers, NumbersRead};
 use common::wide;
 use scratch::{Allocation, Policy};
+use std::io;
+use std::io::Read;
 
 // Where the tally has each kind of case.
 const POOLED: u32 = 0;
@@ -130,14 +132,15 @@ fn sum_agrees(line: Numbers, slots: &[u32]) -> bool {
 
 // One line; answers whether there was one.
 fn turn(
+    input: &mut impl Read,
     ends: &mut [u32],
     mentions: &mut [u32],
     marks: &mut [u8],
     slots: &mut [u32],
     tally: &mut [u64],
-) -> bool {
-    let NumbersRead::Line(line) = answers::read_numbers() else {
-        return false;
+) -> io::Result<bool> {
+    let NumbersRead::Line(line) = answers::read_numbers(input)? else {
+        return Ok(false);
     };
     let code = line.code;
     match code {
@@ -164,38 +167,45 @@ fn turn(
         0x3f => answers::note(tally, SLOTS, sum_agrees(line, slots)),
         _ => answers::note(tally, SLOTS, false),
     }
-    true
+    Ok(true)
 }
 
-// A proved loop has to end, and nothing says that the list does: so turns are counted down.
+// A proved loop has to end, and nothing says that the list does: so turns are counted.
 fn replay(
+    input: &mut impl Read,
     ends: &mut [u32],
     mentions: &mut [u32],
     marks: &mut [u8],
     slots: &mut [u32],
     tally: &mut [u64],
-) {
-    let mut turns = u64::MAX;
-    while turns > 0 {
-        if !turn(ends, mentions, marks, slots, tally) {
-            return;
+) -> io::Result<()> {
+    for _ in 0..u64::MAX {
+        if !turn(input, ends, mentions, marks, slots, tally)? {
+            break;
         }
-        turns -= 1;
     }
+    Ok(())
 }
 
-fn results(tally: &[u64]) {
-    answers::tell(b"Pooled", tally, POOLED);
-    answers::tell(b"slots", tally, SLOTS);
-    answers::tell(b"PerWire", tally, PER_WIRE);
+fn results(rt: &impl Print, tally: &[u64]) -> io::Result<()> {
+    answers::tell(rt, "Pooled", tally, POOLED)?;
+    answers::tell(rt, "slots", tally, SLOTS)?;
+    answers::tell(rt, "PerWire", tally, PER_WIRE)
 }
 
-fn main() {
+fn main(rt: HostRuntime) -> io::Result<()> {
     let mut ends = [0u32; 8192];
     let mut mentions = [0u32; 16384];
     let mut marks = [0u8; 8192];
     let mut slots = [0u32; 8192];
     let mut tally = [0u64; 6];
-    replay(&mut ends, &mut mentions, &mut marks, &mut slots, &mut tally);
-    results(&tally);
+    replay(
+        &mut rt.reader(),
+        &mut ends,
+        &mut mentions,
+        &mut marks,
+        &mut slots,
+        &mut tally,
+    )?;
+    results(&rt, &tally)
 }

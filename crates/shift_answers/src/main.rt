@@ -6,6 +6,8 @@
 
 use answers::{Numbers, NumbersRead};
 use shift::VariantRead;
+use std::io;
+use std::io::Read;
 
 fn agrees(line: Numbers) -> bool {
     let VariantRead::Known(variant) = shift::variant(line.code) else {
@@ -29,38 +31,37 @@ fn place(code: u8) -> u32 {
 }
 
 // One line; answers whether there was one.
-fn turn(tally: &mut [u64]) -> bool {
-    let NumbersRead::Line(line) = answers::read_numbers() else {
-        return false;
+fn turn(input: &mut impl Read, tally: &mut [u64]) -> io::Result<bool> {
+    let NumbersRead::Line(line) = answers::read_numbers(input)? else {
+        return Ok(false);
     };
     answers::note(tally, place(line.code), agrees(line));
-    true
+    Ok(true)
 }
 
-// A proved loop has to end, and nothing says that the list does: so turns are counted down.
-fn replay(tally: &mut [u64]) {
-    let mut turns = u64::MAX;
-    while turns > 0 {
-        if !turn(tally) {
-            return;
+// A proved loop has to end, and nothing says that the list does: so turns are counted.
+fn replay(input: &mut impl Read, tally: &mut [u64]) -> io::Result<()> {
+    for _ in 0..u64::MAX {
+        if !turn(input, tally)? {
+            break;
         }
-        turns -= 1;
     }
+    Ok(())
 }
 
-fn results(tally: &[u64]) {
-    answers::tell(b"Sll", tally, place(0));
-    answers::tell(b"Slr", tally, place(1));
-    answers::tell(b"Sar", tally, place(2));
-    answers::tell(b"Rotr", tally, place(3));
-    answers::tell(b"Sll32", tally, place(4));
-    answers::tell(b"Srl32", tally, place(5));
-    answers::tell(b"Sra32", tally, place(6));
-    answers::tell(b"Rotr32", tally, place(7));
+fn results(rt: &impl Print, tally: &[u64]) -> io::Result<()> {
+    answers::tell(rt, "Sll", tally, place(0))?;
+    answers::tell(rt, "Slr", tally, place(1))?;
+    answers::tell(rt, "Sar", tally, place(2))?;
+    answers::tell(rt, "Rotr", tally, place(3))?;
+    answers::tell(rt, "Sll32", tally, place(4))?;
+    answers::tell(rt, "Srl32", tally, place(5))?;
+    answers::tell(rt, "Sra32", tally, place(6))?;
+    answers::tell(rt, "Rotr32", tally, place(7))
 }
 
-fn main() {
+fn main(rt: HostRuntime) -> io::Result<()> {
     let mut tally = [0u64; 512];
-    replay(&mut tally);
-    results(&tally);
+    replay(&mut rt.reader(), &mut tally)?;
+    results(&rt, &tally)
 }

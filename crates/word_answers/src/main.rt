@@ -4,8 +4,9 @@
 // oracle/README.md how to make it anew. What hints 1 to 3 answer there is the harness's own.
 #![tactic(auto)]
 
-
 use answers::{Words, WordsRead};
+use std::io;
+use std::io::Read;
 
 fn is(fails: bool, want: u64) -> bool {
     if fails { want == 1 } else { want == 0 }
@@ -119,56 +120,55 @@ fn place(code: u8) -> u32 {
 }
 
 // One line; answers whether there was one.
-fn turn(sources: &mut [u64], tally: &mut [u64]) -> bool {
-    let WordsRead::Line(line) = answers::read_words() else {
-        return false;
+fn turn(input: &mut impl Read, sources: &mut [u64], tally: &mut [u64]) -> io::Result<bool> {
+    let WordsRead::Line(line) = answers::read_words(input)? else {
+        return Ok(false);
     };
     if line.code == 0 {
         put(line, sources);
-        return true;
+        return Ok(true);
     }
     answers::note(tally, place(line.code), line_agrees(line, sources));
-    true
+    Ok(true)
 }
 
-// A proved loop has to end, and nothing says that the list does: so turns are counted down.
-fn replay(sources: &mut [u64], tally: &mut [u64]) {
-    let mut turns = u64::MAX;
-    while turns > 0 {
-        if !turn(sources, tally) {
-            return;
+// A proved loop has to end, and nothing says that the list does: so turns are counted.
+fn replay(input: &mut impl Read, sources: &mut [u64], tally: &mut [u64]) -> io::Result<()> {
+    for _ in 0..u64::MAX {
+        if !turn(input, sources, tally)? {
+            break;
         }
-        turns -= 1;
     }
+    Ok(())
 }
 
-fn results(tally: &[u64]) {
-    answers::tell(b"Band", tally, place(0x01));
-    answers::tell(b"Bor", tally, place(0x02));
-    answers::tell(b"Bxor", tally, place(0x03));
-    answers::tell(b"IaddCarry", tally, place(0x22));
-    answers::tell(b"Select", tally, place(0x05));
-    answers::tell(b"Fax", tally, place(0x07));
-    answers::tell(b"BxorMulti", tally, place(0x06));
-    answers::tell(b"IaddCinCout", tally, place(0x21));
-    answers::tell(b"IsubBinBout", tally, place(0x23));
-    answers::tell(b"Imul", tally, place(0x30));
-    answers::tell(b"Iadd32CinCout", tally, place(0x40));
-    answers::tell(b"Iadd32Cout", tally, place(0x46));
-    answers::tell(b"AssertEq", tally, place(0x60));
-    answers::tell(b"AssertEqCond", tally, place(0x61));
-    answers::tell(b"AssertZero", tally, place(0x62));
-    answers::tell(b"AssertNonZero", tally, place(0x63));
-    answers::tell(b"AssertFalse", tally, place(0x64));
-    answers::tell(b"AssertTrue", tally, place(0x65));
-    answers::tell(b"hint 1", tally, place(0x81));
-    answers::tell(b"hint 2", tally, place(0x82));
-    answers::tell(b"hint 3", tally, place(0x83));
+fn results(rt: &impl Print, tally: &[u64]) -> io::Result<()> {
+    answers::tell(rt, "Band", tally, place(0x01))?;
+    answers::tell(rt, "Bor", tally, place(0x02))?;
+    answers::tell(rt, "Bxor", tally, place(0x03))?;
+    answers::tell(rt, "IaddCarry", tally, place(0x22))?;
+    answers::tell(rt, "Select", tally, place(0x05))?;
+    answers::tell(rt, "Fax", tally, place(0x07))?;
+    answers::tell(rt, "BxorMulti", tally, place(0x06))?;
+    answers::tell(rt, "IaddCinCout", tally, place(0x21))?;
+    answers::tell(rt, "IsubBinBout", tally, place(0x23))?;
+    answers::tell(rt, "Imul", tally, place(0x30))?;
+    answers::tell(rt, "Iadd32CinCout", tally, place(0x40))?;
+    answers::tell(rt, "Iadd32Cout", tally, place(0x46))?;
+    answers::tell(rt, "AssertEq", tally, place(0x60))?;
+    answers::tell(rt, "AssertEqCond", tally, place(0x61))?;
+    answers::tell(rt, "AssertZero", tally, place(0x62))?;
+    answers::tell(rt, "AssertNonZero", tally, place(0x63))?;
+    answers::tell(rt, "AssertFalse", tally, place(0x64))?;
+    answers::tell(rt, "AssertTrue", tally, place(0x65))?;
+    answers::tell(rt, "hint 1", tally, place(0x81))?;
+    answers::tell(rt, "hint 2", tally, place(0x82))?;
+    answers::tell(rt, "hint 3", tally, place(0x83))
 }
 
-fn main() {
+fn main(rt: HostRuntime) -> io::Result<()> {
     let mut sources = [0u64; 64];
     let mut tally = [0u64; 512];
-    replay(&mut sources, &mut tally);
-    results(&tally);
+    replay(&mut rt.reader(), &mut sources, &mut tally)?;
+    results(&rt, &tally)
 }

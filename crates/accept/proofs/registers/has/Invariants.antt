@@ -1,0 +1,11 @@
+-- `accept::registers::has`'s loop: what is left of the fields decides. Assumes nothing.
+use Rattle.std.proofs.Common.{◌-◌}
+use Rattle.common.specs.Lists.{member}
+use Rattle.accept.proofs.Left.{Testing}
+use Rattle.accept.proofs.registers.has.Given as goal
+
+abbrev pub invariant-loop-k : goal.invariant-loop-k
+invariant-loop-k l = Testing (member l.x) l.code l.at l.n l.k
+
+abbrev pub decreases-loop-k : goal.decreases-loop-k
+decreases-loop-k l = l.n - l.k
