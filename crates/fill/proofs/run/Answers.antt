@@ -1,11 +1,10 @@
 -- `fill::run` meets its contract: refused by its sizes or by the check, or run and reported. Assumes nothing.
-use Rattle.std.proofs.Common.{◌≡◌, ◌∙◌, ◌*◌, ◌≤◌, ℕ, List, Bool, true, false, length, refl, sym, ap, arith}
+use Rattle.std.proofs.Common.{◌∙◌, length, refl, sym, ap, arith}
 use Rattle.refusal.specs.Number.{number_of}
 use Rattle.refusal.specs.declared.Refusal.TheVariants.{BadShape, BadCap}
-use Rattle.accept.specs.Check.{accepted, verdict, check_of}
+use Rattle.accept.specs.Check.{verdict}
 use Rattle.accept.proofs.Acceptance.{accepted_program}
 use Rattle.bytecode.specs.Program.{program_of}
-use Rattle.report.specs.Sizes.{max_cap, record_words}
 use Rattle.rows.specs.declared.Stripe.{Stripe}
 use Rattle.rows.proofs.Stripes.{across_is}
 use Rattle.fill.specs.Meaning.{run_col}
@@ -60,4 +59,4 @@ returns-in-Accepted c =
     let done = c.finish.ensures (lowest_of q) c.run_loop-low.ensures.shows in
     clauses
     (run_accepted q (judged ∙ sym c.check.ensures ∙ ap verdict c.in-Accepted.is) done.0
-      (across_is (run_col (program_of a.code.now)) s a.values.now shape.array c.run_loop-low.ensures.across) done.1)
+    (across_is (run_col (program_of a.code.now)) s a.values.now shape.array c.run_loop-low.ensures.across) done.1)

@@ -80,8 +80,8 @@ loop-at-preserved c =
     let l = c.loop-at in
     let w = c.in-Instruction in
     let judged =
-        judged_as a.cap a.s.count (λ j. sym (claim_notes (drop l.at a.code.now) l.number w.i (column_of a.s l.values j)))
-        (rw c.claim_of-claim.ensures at c.judge-low.ensures) in
+    judged_as a.cap a.s.count (λ j. sym (claim_notes (drop l.at a.code.now) l.number w.i (column_of a.s l.values j)))
+    (rw c.claim_of-claim.ensures at c.judge-low.ensures) in
     along_more l.invariant _ _ (decoded a.code.now l.at c.decode.result w.i w.len c.decode.ensures w.is) judged (rw (part_rest a.code.now l.at) at c.perform.ensures)
 
 pub returns : goal.returns

@@ -1,5 +1,5 @@
 -- `fill::assertions::scan` meets its contract: the columns passed over do not fail. Assumes nothing.
-use Rattle.std.proofs.Common.{◌≡◌, ◌∙◌, ◌+◌, ◌*◌, ℕ, Bool, List, length, sym, get_or, arith, below_none, below_more}
+use Rattle.std.proofs.Common.{◌≡◌, ◌∙◌, ◌+◌, ◌*◌, ℕ, Bool, List, sym, get_or, arith, below_none, below_more}
 use Rattle.rows.specs.Working.{InRow}
 use Rattle.rows.specs.declared.Stripe.{Stripe}
 use Rattle.fill.specs.Working.{fails_by, column_of}
@@ -24,7 +24,7 @@ columns-preserved c =
     record {
       within = omega arith;
       before = below_more _ _ c.columns.invariant.before
-        (tested a.s a.values.now a.kind c.columns.k a.c a.a a.b c.requires.within.1 c.requires.in_row.0 c.requires.in_row.1 c.violates.ensures ∙ c.if-violates.false);
+          (tested a.s a.values.now a.kind c.columns.k a.c a.a a.b c.requires.within.1 c.requires.in_row.0 c.requires.in_row.1 c.violates.ensures ∙ c.if-violates.false);
     }
 
 pub returns-after-columns : goal.returns-after-columns
