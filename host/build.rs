@@ -1,5 +1,5 @@
 //! Links target/staticlib/libgussetglen.a, the proved library. The environment variable GUSSETGLEN_LIB_DIR names another
-//! folder for it. Where the library is absent and `rt` is at hand, `rt staticlib gussetglen` builds it.
+//! folder for it. Where the library is absent and `rt` is at hand, `.ci/staticlib` builds it.
 
 use std::path::{Path, PathBuf};
 use std::process::{exit, Command};
@@ -32,7 +32,7 @@ fn main() {
     }
     if !archive.exists() {
         fail(&format!(
-            "{} is absent. Run `rt staticlib gussetglen` in the repository's root, which proves and writes it, or name \
+            "{} is absent. Run `.ci/staticlib` in the repository's root, which proves and writes it, or name \
              the folder that has it in the environment variable {FOLDER}.",
             archive.display()
         ));
@@ -45,9 +45,12 @@ fn main() {
 
 /// Has `rt` prove and write the library. Without `rt` nothing happens: the message about an absent library follows.
 fn build(root: &Path) {
-    match Command::new("rt").args(["staticlib", "gussetglen"]).current_dir(root).output() {
+    if Command::new("rt").arg("version").output().is_err() {
+        return;
+    }
+    match Command::new(root.join(".ci/staticlib")).output() {
         Ok(done) if !done.status.success() => fail(&format!(
-            "`rt staticlib gussetglen` failed in {}:\n{}{}",
+            "`.ci/staticlib` failed in {}:\n{}{}",
             root.display(),
             String::from_utf8_lossy(&done.stdout),
             String::from_utf8_lossy(&done.stderr)

@@ -9,7 +9,6 @@ use Rattle.bytecode.specs.Layout.{word_at, size_as}
 use Rattle.bytecode.specs.Instruction.{Inst, inst}
 use Rattle.bytecode.specs.Parse.{whole, parse, read_as}
 use Rattle.bytecode.specs.declared.opcode.Shape.{Shape}
-use Rattle.bytecode.specs.declared.opcode.Shape.TheVariants as S
 use Rattle.bytecode.specs.declared.layout.Size.TheVariants.{Bytes}
 use Rattle.bytecode.specs.declared.instruction.Instruction.{Instruction}
 use Rattle.bytecode.specs.declared.instruction.Instruction.TheVariants as I

@@ -10,7 +10,6 @@ use borrow.Author.Tests.{not-true, leb-false, eqb-false, le-leb, eq-eqb}
 use Rattle.refusal.proofs.Numbers.{number_names_one}
 use Rattle.bytecode.specs.Layout.{AreBytes}
 use Rattle.accept.specs.Check.{accepted, refusal, check_of}
-use Rattle.accept.specs.Faults as program
 use Rattle.accept.proofs.Refusals as check
 use Rattle.accept.proofs.Soundness.{clash}
 use Rattle.report.specs.Sizes.{max_width, max_cap, record_words}

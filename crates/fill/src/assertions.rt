@@ -10,7 +10,7 @@ use report::noting::{Low, note};
 use report::record::{Failure, MOST_WORDS, head};
 use rows::Stripe;
 
-#[derive(Drop)]
+#[derive(Clone, Copy)]
 pub enum Kind {
     Eq,
     EqCond,

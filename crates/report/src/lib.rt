@@ -19,7 +19,7 @@ pub const MAX_WIDTH: usize = 4096;
 pub struct LocalPosition(usize);
 
 // A position counted from the batch's start.
-#[derive(Drop)]
+#[derive(Clone, Copy)]
 pub struct BatchPosition(usize);
 
 impl LocalPosition {

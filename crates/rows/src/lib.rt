@@ -6,7 +6,7 @@ pub mod loops;
 pub mod many;
 
 // Columns `first` to `first + count - 1` of a batch of `rows` rows, `width` columns wide.
-#[derive(Drop)]
+#[derive(Clone, Copy)]
 pub struct Stripe {
     pub rows: usize,
     pub width: usize,

@@ -1,0 +1,10 @@
+-- `fill::run_loop`: a turn of the loop is one instruction more along the program. Assumes nothing.
+use Rattle.std.proofs.Common.{length, ◌-◌}
+use Rattle.fill.proofs.Runs.{Along}
+use Rattle.fill.proofs.run_loop.Given as goal
+
+abbrev pub invariant-loop-at : goal.invariant-loop-at
+invariant-loop-at l = Along l.code l.s l.cap l.initial.values l.values l.records l.low l.at l.number
+
+abbrev pub decreases-loop-at : goal.decreases-loop-at
+decreases-loop-at l = length l.code - l.at
