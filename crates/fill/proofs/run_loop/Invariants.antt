@@ -1,4 +1,4 @@
--- `fill::run_loop`: a turn of the loop is one instruction more along the program. Assumes nothing.
+-- `fill::run_loop`'s loop: the program runs along its bytes, an instruction a turn. Assumes nothing.
 use Rattle.std.proofs.Common.{length, ◌-◌}
 use Rattle.fill.proofs.Runs.{Along}
 use Rattle.fill.proofs.run_loop.Given as goal

@@ -1,4 +1,4 @@
--- `fill::assertions::scan`: the columns passed over do not fail. Assumes nothing.
+-- `fill::assertions::scan`'s loop: no column that it passed fails. Assumes nothing.
 use Rattle.std.proofs.Common.{◌≡◌, ℕ, ◌-◌, ◌<◌, ◌≤◌, false}
 use Rattle.fill.specs.Working.{fails_by, column_of}
 use Rattle.fill.proofs.assertions.scan.Given as goal
