@@ -16,7 +16,7 @@ one_word kind x y z =
     (0 ∷ x ∷ bit_and x y ∷ bit_or x y ∷ bit_xor x y ∷ carry_word 64 x y 0 ∷ select_word x y z ∷ fax_word x y z ∷ zeros_above 64 x ∷ [])
     kind (zeros_above 64 x)
 
--- add, subtract, multiply, add by halves with carry_ins and without, divide
+-- add, subtract, multiply, add by halves with carry-ins and without, divide
 abbrev pub first_word : ℕ → ℕ → ℕ → ℕ → ℕ
 first_word kind x y z =
     get_or

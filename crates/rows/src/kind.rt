@@ -32,7 +32,7 @@ pub const SUBTRACT: u8 = 1;
 
 pub const MULTIPLY: u8 = 2;
 
-// By halves, with the third word's carry_ins.
+// By halves, with the third word's carry-ins.
 pub const ADD32_CIN: u8 = 3;
 
 // By halves, with none.
