@@ -100,7 +100,8 @@ pub fn decode(code: &[u8]) -> Decoded
     match size_of(code, shape_of(op)) {
         Size::Refused(r) => Decoded::Refused(r, 0),
         Size::Bytes(n) => {
-            if code.len() < n {
+            let short = code.len() < n;
+            if short {
                 return Decoded::Refused(Refusal::Truncated, 0);
             }
             if variant_over(code, op) {

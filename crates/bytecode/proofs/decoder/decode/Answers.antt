@@ -14,18 +14,18 @@ pub returns-in-Refused : goal.returns-in-Refused
 unfolding told sized
 returns-in-Refused c = rw (parse_is c.args.code.now _ _ _ c.if-code-eq0.false c.shape_of.ensures c.size_of.ensures c.in-Refused.is)
 
-pub returns-then-code-n : goal.returns-then-code-n
+pub returns-then-short : goal.returns-then-short
 unfolding told sized
-returns-then-code-n c =
-    rw (parse_is c.args.code.now _ _ _ c.if-code-eq0.false c.shape_of.ensures c.size_of.ensures c.in-Bytes.is, lt-ltb _ _ c.if-code-n.true)
+returns-then-short c =
+    rw (parse_is c.args.code.now _ _ _ c.if-code-eq0.false c.shape_of.ensures c.size_of.ensures c.in-Bytes.is, lt-ltb _ _ c.if-short.true)
 
 pub returns-then-variant_over : goal.returns-then-variant_over
 unfolding told sized
 returns-then-variant_over c =
-    rw (parse_is c.args.code.now _ _ _ c.if-code-eq0.false c.shape_of.ensures c.size_of.ensures c.in-Bytes.is, le-ltb _ _ c.if-code-n.false, variant_of_lem, ← c.variant_over.ensures, c.if-variant_over.true)
+    rw (parse_is c.args.code.now _ _ _ c.if-code-eq0.false c.shape_of.ensures c.size_of.ensures c.in-Bytes.is, le-ltb _ _ c.if-short.false, variant_of_lem, ← c.variant_over.ensures, c.if-variant_over.true)
 
 pub returns-else-variant_over : goal.returns-else-variant_over
 unfolding told sized
 returns-else-variant_over c =
     let carried = has_size (shape_of (get_or c.args.code.now 0 0)) _ c.in-Bytes.n (rw c.shape_of.ensures at (sym c.size_of.ensures ∙ c.in-Bytes.is)) in
-    rw (parse_is c.args.code.now _ _ _ c.if-code-eq0.false c.shape_of.ensures c.size_of.ensures c.in-Bytes.is, le-ltb _ _ c.if-code-n.false, variant_of_lem, ← c.variant_over.ensures, c.if-variant_over.false, c.instruction_of.ensures carried)
+    rw (parse_is c.args.code.now _ _ _ c.if-code-eq0.false c.shape_of.ensures c.size_of.ensures c.in-Bytes.is, le-ltb _ _ c.if-short.false, variant_of_lem, ← c.variant_over.ensures, c.if-variant_over.false, c.instruction_of.ensures carried)
