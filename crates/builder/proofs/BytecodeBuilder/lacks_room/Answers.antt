@@ -13,4 +13,4 @@ pub returns-then-m-len-2 : goal.returns-then-m-len-2
 returns-then-m-len-2 c = sym (lacks _ _ _ (λ r. omega (arith, r.buffer)))
 
 pub returns : goal.returns
-returns c = sym (by_limit _ _ _ c.if-len-count.false (omega arith))
+returns c = sym (by_limit _ _ _ (omega arith) (omega arith))
