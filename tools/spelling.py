@@ -4,9 +4,9 @@
 usage: python3 tools/spelling.py [ROOT]
 
 A definition, a constructor or a field is in snake case; a lemma's words are joined by `_`, and a dash stays only between two
-names one of which is std's, as in `length-append`. The proof of a function f is `f_spec`, and each crate's root asks for tactics. Names that Rattle makes or asks for (goals, invariants,
-measures) and the names of src/ keep their spelling. The must-fail edits follow, by the line of the file that they name. A new
-name that stands already, or that two would share, is not taken: the old one is kept and told.
+names one of which is std's, as in `length-append`. The proof of a function f is `f_spec`, and each crate's root asks for
+tactics. Names that Rattle makes or asks for (goals, invariants, measures) and the names of src/ keep their spelling. The
+must-fail edits follow. A new name that stands already, or that two would share, is not taken: the old one is kept and told.
 """
 import collections
 import os
@@ -105,7 +105,8 @@ def main():
             old = read(path)
             new = []
             for line in old.split("\n"):
-                # In Rust's part of a file a dash is a minus: dashed names stand in comments alone.
+                # In code a dash is a minus, so there dashed names stand in comments alone. An edit is of a file of antt or of code,
+                # as its first lines say.
                 use = pattern if ending == ".antt" or line.lstrip().startswith("//") or ".antt" in old[:80] else plain
                 new.append(use.sub(lambda m: renamed[m.group(1)], line))
             new = "\n".join(new)
@@ -121,8 +122,6 @@ def main():
             with open(path, "w", encoding="utf-8") as file:
                 file.write("\n".join(lines))
     print(f"{len(renamed)} names")
-    with open(os.path.join(ROOT, "docs", "renamed.txt") if len(sys.argv) > 2 else os.devnull, "w", encoding="utf-8") as file:
-        file.writelines(f"{old} {new}\n" for old, new in sorted(renamed.items()))
 
 
 if __name__ == "__main__":
