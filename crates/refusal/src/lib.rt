@@ -4,43 +4,45 @@
 ghost use Rattle.std.specs.Prelude.{◌≡◌};
 ghost use Rattle.refusal.specs.Number.{number_of};
 
-// In the order of document 01's table.
-#[derive(Drop)]
+// Each by document 01's name and number.
+#[derive(Clone, Copy, PartialEq, Eq, Debug)]
 pub enum Refusal {
-    BadShape,
-    BadCap,
-    TooLong,
-    UnknownOpcode,
-    NotCarried,
-    Truncated,
-    BadShift,
-    BadHint,
-    BadRegister,
-    Overlap,
-    NoRoom,
-    SamePosition,
-    BadPosition,
-    BadGates,
+    BadShape = 1,
+    BadCap = 2,
+    TooLong = 3,
+    UnknownOpcode = 4,
+    NotCarried = 5,
+    Truncated = 6,
+    BadShift = 7,
+    BadHint = 8,
+    BadRegister = 9,
+    Overlap = 10,
+    NoRoom = 11,
+    SamePosition = 12,
+    BadPosition = 13,
+    BadGates = 14,
 }
 
-// Document 01's number.
-pub fn number(refusal: Refusal) -> u8
-    ensures { result ≡ number_of refusal }
-{
-    match refusal {
-        Refusal::BadShape => 1,
-        Refusal::BadCap => 2,
-        Refusal::TooLong => 3,
-        Refusal::UnknownOpcode => 4,
-        Refusal::NotCarried => 5,
-        Refusal::Truncated => 6,
-        Refusal::BadShift => 7,
-        Refusal::BadHint => 8,
-        Refusal::BadRegister => 9,
-        Refusal::Overlap => 10,
-        Refusal::NoRoom => 11,
-        Refusal::SamePosition => 12,
-        Refusal::BadPosition => 13,
-        Refusal::BadGates => 14,
+// A refusal, and its offset from the start of the bytes that were judged, 0 where it has none.
+#[derive(Clone, Copy, PartialEq, Eq, Debug)]
+pub struct RefusedAt {
+    pub refusal: Refusal,
+    pub offset: usize,
+}
+
+impl From<Refusal> for u8 {
+    ghost from_gives = { λ refusal number. number ≡ number_of refusal };
+
+    fn from(refusal: Refusal) -> u8 {
+        refusal as u8
+    }
+}
+
+// A refusal that has no offset.
+impl From<Refusal> for RefusedAt {
+    ghost from_gives = { λ refusal refused. refused ≡ record { refusal = refusal; offset = 0 } };
+
+    fn from(refusal: Refusal) -> RefusedAt {
+        RefusedAt { refusal, offset: 0 }
     }
 }

@@ -1,6 +1,7 @@
 -- Laws of the variants' codes and of refusal 7. Assumes nothing.
 use mathlib.Core.Path.{◌≡◌, refl, sym, ap, ◌∙◌}
 use mathlib.Core.Bool.{false}
+use Rattle.std.specs.Prelude.{Ok}
 use Prim.Native.Nat.{ℕ, zero, suc, ◌-◌, ◌<◌}
 use native.Mathlib.Omega.{arith}
 use borrow.Author.Tests.{ltb-false}
@@ -8,7 +9,6 @@ use lib.Dec.{ltb, lit<}
 use Rattle.shift.specs.Variant.{width_of, code_of, variant_of, read_variant, bad_variant, bad_amount}
 use Rattle.shift.specs.declared.ShiftVariant.{ShiftVariant}
 use Rattle.shift.specs.declared.ShiftVariant.TheVariants.{Sll, Slr, Sar, Rotr, Sll32, Srl32, Sra32, Rotr32}
-use Rattle.shift.specs.declared.VariantRead.TheVariants.{Known}
 
 -- what holds of each variant by computing alone
 by_variant : (Q : ShiftVariant → Type 0) → Q Sll → Q Slr → Q Sar → Q Rotr → Q Sll32 → Q Srl32 → Q Sra32 → Q Rotr32 → (v : ShiftVariant) → Q v
@@ -22,8 +22,8 @@ by_variant Q a b c d e f g h Sra32 = g
 by_variant Q a b c d e f g h Rotr32 = h
 
 -- reading the byte that names a variant gives the variant back
-pub read_code : (v : ShiftVariant) → read_variant (code_of v) ≡ Known v
-read_code = by_variant (λ v. read_variant (code_of v) ≡ Known v) refl refl refl refl refl refl refl refl
+pub read_code : (v : ShiftVariant) → read_variant (code_of v) ≡ Ok v
+read_code = by_variant (λ v. read_variant (code_of v) ≡ Ok v) refl refl refl refl refl refl refl refl
 
 -- the amount is bad exactly when it is over the variant's width less 1
 pub amount_code : (v : ShiftVariant) (n : ℕ) → bad_amount (code_of v) n ≡ ltb (width_of v - 1) n

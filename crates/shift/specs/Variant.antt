@@ -1,12 +1,11 @@
 -- Document 01's shift variants: their codes, what refusal 7 judges, and the shift of a word by each.
-use Rattle.std.specs.Prelude.{ℕ, List, [], ◌∷◌, Bool, cond, get_or, ltb}
+use Rattle.std.specs.Prelude.{ℕ, List, [], ◌∷◌, Bool, cond, get_or, ltb, Result, Ok, Err}
 use Rattle.std.specs.Int.{w32, w64}
 use Rattle.common.specs.Halves.{halves}
 use Rattle.shift.specs.Shift.{sll, slr, sar, rotr}
 use Rattle.shift.specs.declared.ShiftVariant.{ShiftVariant}
 use Rattle.shift.specs.declared.ShiftVariant.TheVariants.{Sll, Slr, Sar, Rotr, Sll32, Srl32, Sra32, Rotr32}
-use Rattle.shift.specs.declared.VariantRead.{VariantRead}
-use Rattle.shift.specs.declared.VariantRead.TheVariants.{Known, Unknown}
+use Rattle.shift.specs.declared.UnknownVariant.{UnknownVariant}
 
 -- the first four on the word, the last four on each half of it
 abbrev pub shift_word : ShiftVariant → ℕ → ℕ → ℕ
@@ -61,5 +60,5 @@ abbrev pub bad_amount : ℕ → ℕ → Bool
 bad_amount c n = ltb (most_amount c) n
 
 -- what a byte names
-abbrev pub read_variant : ℕ → VariantRead
-read_variant c = cond (bad_variant c) Unknown (Known (variant_of c))
+abbrev pub read_variant : ℕ → Result ShiftVariant UnknownVariant
+read_variant c = cond (bad_variant c) (Err (record { 0 = c })) (Ok (variant_of c))

@@ -1,78 +1,65 @@
 //! The eight shift variants: their codes, the judging of refusal 7, and the shift of a word.
 #![tactic(auto)]
 
-mod half;
-mod signed;
-mod whole;
-
-ghost use Rattle.std.specs.Prelude.{◌≡◌, ◌<◌};
-ghost use Rattle.std.specs.Int.{w32};
+ghost use Rattle.std.specs.Prelude.{◌≡◌, ◌<◌, ◌+◌, ◌*◌, ◌/◌, ◌%◌, ◌^◌, ℕ};
 ghost use Rattle.common.specs.Halves.{halves};
-ghost use Rattle.shift.specs.Shift.{sll, slr, sar, rotr};
 ghost use Rattle.shift.specs.Variant.{width_of, shift_word, code_of, read_variant, bad_variant, bad_amount};
 
 use common::halves::{high, join, low};
 
-// In the order of their codes, 0 to 7.
-#[derive(Drop)]
+// Each by the code that the bytes name it by.
+#[derive(Clone, Copy, PartialEq, Eq, Debug)]
 pub enum ShiftVariant {
-    Sll,
-    Slr,
-    Sar,
-    Rotr,
-    Sll32,
-    Srl32,
-    Sra32,
-    Rotr32,
+    Sll = 0,
+    Slr = 1,
+    Sar = 2,
+    Rotr = 3,
+    Sll32 = 4,
+    Srl32 = 5,
+    Sra32 = 6,
+    Rotr32 = 7,
 }
 
-// What a variant byte names.
-#[derive(Drop)]
-pub enum VariantRead {
-    Known(ShiftVariant),
-    Unknown,
-}
+// A byte that names no variant.
+#[derive(Clone, Copy, PartialEq, Eq, Debug)]
+pub struct UnknownVariant(pub u8);
 
-pub fn variant(code: u8) -> VariantRead
-    ensures { result ≡ read_variant code }
-{
-    match code {
-        0 => VariantRead::Known(ShiftVariant::Sll),
-        1 => VariantRead::Known(ShiftVariant::Slr),
-        2 => VariantRead::Known(ShiftVariant::Sar),
-        3 => VariantRead::Known(ShiftVariant::Rotr),
-        4 => VariantRead::Known(ShiftVariant::Sll32),
-        5 => VariantRead::Known(ShiftVariant::Srl32),
-        6 => VariantRead::Known(ShiftVariant::Sra32),
-        7 => VariantRead::Known(ShiftVariant::Rotr32),
-        _ => VariantRead::Unknown,
+impl TryFrom<u8> for ShiftVariant {
+    type Error = UnknownVariant;
+
+    ghost try_from_gives = { λ code answer. answer ≡ read_variant code };
+
+    fn try_from(code: u8) -> Result<ShiftVariant, UnknownVariant> {
+        match code {
+            0 => Ok(ShiftVariant::Sll),
+            1 => Ok(ShiftVariant::Slr),
+            2 => Ok(ShiftVariant::Sar),
+            3 => Ok(ShiftVariant::Rotr),
+            4 => Ok(ShiftVariant::Sll32),
+            5 => Ok(ShiftVariant::Srl32),
+            6 => Ok(ShiftVariant::Sra32),
+            7 => Ok(ShiftVariant::Rotr32),
+            _ => Err(UnknownVariant(code)),
+        }
     }
 }
 
-// The byte that names a variant.
-pub fn code(v: ShiftVariant) -> u8
-    ensures { result ≡ code_of v }
-{
-    match v {
-        ShiftVariant::Sll => 0,
-        ShiftVariant::Slr => 1,
-        ShiftVariant::Sar => 2,
-        ShiftVariant::Rotr => 3,
-        ShiftVariant::Sll32 => 4,
-        ShiftVariant::Srl32 => 5,
-        ShiftVariant::Sra32 => 6,
-        ShiftVariant::Rotr32 => 7,
+impl From<ShiftVariant> for u8 {
+    ghost from_gives = { λ variant code. code ≡ code_of variant };
+
+    fn from(variant: ShiftVariant) -> u8 {
+        variant as u8
     }
 }
 
-// Refusal 7, its first half: the variant is over 7.
+// Refusal 7, its first half: the variant is over 7. Bytes are judged here, and no variants: the definitions say it of every byte.
 pub fn bad_variant(code: u8) -> bool
     ensures { result ≡ bad_variant code }
 {
     7 < code
 }
 
-// Its second half, of a variant that is not: the amount is over 63, or over 31 from variant 4 on.
+// Its second half, of a variant of 7 or below: the amount is over 63, or over 31 from variant 4 on.
 pub fn bad_amount(code: u8, amount: u8) -> bool
     ensures { result ≡ bad_amount code amount }
 {
@@ -80,46 +67,28 @@ pub fn bad_amount(code: u8, amount: u8) -> bool
 }
 
 // One shift of one word. The amount is below the variant's width, which the two tests above show.
+#[tactic(auto, using(crate::proofs::Complement::shifted, crate::proofs::Rotate::two_shifts), unfolding(common::specs::Halves::halves, crate::specs::Shift::sar, crate::specs::Shift::rotr))]
 pub fn shift(v: ShiftVariant, n: u8, x: u64) -> u64
     requires { n < width_of v }
     ensures { result ≡ shift_word v n x }
 {
     match v {
-        ShiftVariant::Sll => whole::sll(x, n),
-        ShiftVariant::Slr => whole::slr(x, n),
-        ShiftVariant::Sar => whole::sar(x, n),
-        ShiftVariant::Rotr => whole::rotr(x, n),
-        ShiftVariant::Sll32 => sll32(x, n),
-        ShiftVariant::Srl32 => srl32(x, n),
-        ShiftVariant::Sra32 => sra32(x, n),
-        ShiftVariant::Rotr32 => rotr32(x, n),
+        ShiftVariant::Sll => x << n,
+        ShiftVariant::Slr => x >> n,
+        ShiftVariant::Sar => (x.cast_signed() >> n).cast_unsigned(),
+        // The rotations are written out: over std's `rotate_right` a row loop has more instructions, or none that are vectors.
+        ShiftVariant::Rotr => (x >> n) | (x << ((64 - n) % 64)),
+        ShiftVariant::Sll32 => by_halves(x, |half| half << n),
+        ShiftVariant::Srl32 => by_halves(x, |half| half >> n),
+        ShiftVariant::Sra32 => by_halves(x, |half| (half.cast_signed() >> n).cast_unsigned()),
+        ShiftVariant::Rotr32 => by_halves(x, |half| (half >> n) | (half << ((32 - n) % 32))),
     }
 }
 
-fn sll32(x: u64, n: u8) -> u64
-    requires { n < 32 }
-    ensures { result ≡ halves 32 (λ half. sll w32 n (half x)) }
+// The word whose halves are f's of the halves of x.
+fn by_halves<F: Fn(u32) -> u32>(x: u64, f: F) -> u64
+    requires { F.IsAlwaysCallable f }
+    ensures { (hi lo : ℕ) × F.post f (x / 2 ^ 32) hi × F.post f (x % 2 ^ 32) lo × (result ≡ hi * 2 ^ 32 + lo) }
 {
-    join(half::sll(high(x), n), half::sll(low(x), n))
-}
-
-fn srl32(x: u64, n: u8) -> u64
-    requires { n < 32 }
-    ensures { result ≡ halves 32 (λ half. slr w32 n (half x)) }
-{
-    join(half::slr(high(x), n), half::slr(low(x), n))
-}
-
-fn sra32(x: u64, n: u8) -> u64
-    requires { n < 32 }
-    ensures { result ≡ halves 32 (λ half. sar w32 n (half x)) }
-{
-    join(half::sar(high(x), n), half::sar(low(x), n))
-}
-
-fn rotr32(x: u64, n: u8) -> u64
-    requires { n < 32 }
-    ensures { result ≡ halves 32 (λ half. rotr w32 n (half x)) }
-{
-    join(half::rotr(high(x), n), half::rotr(low(x), n))
+    join(f(high(x)), f(low(x)))
 }

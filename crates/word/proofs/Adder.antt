@@ -2,9 +2,10 @@
 use Rattle.std.proofs.Common.{◌≡◌, ℕ, zero, suc, ◌+◌, ◌-◌, ◌*◌, ◌/◌, ◌%◌, ◌^◌, ◌<◌, Bool, true, false, leb, sym, refl, ap, ◌∙◌, ap₂, mod-lt, add-mul, add_comm, pow-suc, add-one, arith, lit<, pow_pos, leb-false, leb-true}
 use native.Mathlib.Nat.{mod-add-mod, div-eq_of_lt, div-eq_of_lt-le, add-mul-div_right, div-div-eq-div-mul}
 use lib.Bits.{bit_and, bit_or, bit_xor, and_lt, or_lt, xor_lt, and_block, or_block, xor_block}
-use lib.Pow.{ones_sub-lt, split}
+use lib.Pow.{ones_sub-lt, split, shr_lt}
+use Rattle.common.specs.Halves.{halves}
 use Rattle.common.specs.Bits.{bit, bit_at}
-use Rattle.word.specs.Arithmetic.{sum_word, carry_into, carry_word}
+use Rattle.word.specs.Arithmetic.{sum_word, carry_into, carry_word, sum_halves, carry_halves}
 use Rattle.common.proofs.Digits.{mod-suc-pow, bit_at_lt, top_bit, is_word, bit-and, bit-or, bit-xor, bit_not, not-halves, bit-mod, three}
 
 -- by what a test says
@@ -83,6 +84,21 @@ masked_halves w a₁ a₀ b₁ b₀ s₁ s₀ ha hb hs₁ hs₀ =
     ∙ and_block w (bit_xor a₁ b₁) (2 ^ w - 1 - s₁) (bit_xor a₀ b₀) (2 ^ w - 1 - s₀) (xor_lt w a₀ b₀ ha hb) (ones_sub-lt w s₀))
     ∙ or_block w (bit_and a₁ b₁) (bit_and (bit_xor a₁ b₁) (2 ^ w - 1 - s₁)) (bit_and a₀ b₀) (bit_and (bit_xor a₀ b₀) (2 ^ w - 1 - s₀))
     (and_lt w a₀ b₀ ha hb) (and_lt w _ _ (xor_lt w a₀ b₀ ha hb) (ones_sub-lt w s₀))
+
+-- of the two halves' sums it is the two halves' carries
+pub carries_by_halves : (a b cin : ℕ) → a < 2 ^ 64 → b < 2 ^ 64 → masked 64 a b (sum_halves a b cin) ≡ carry_halves a b cin
+unfolding sum_halves carry_halves sum_word halves
+carries_by_halves a b cin ha hb =
+    let low : (x : ℕ) → x % 2 ^ 32 < 2 ^ 32 = λ x. mod-lt x (pow_pos 32) in
+    let c₁ = bit_at (cin / 2 ^ 32) 31 in
+    let c₀ = bit_at (cin % 2 ^ 32) 31 in
+    let s₁ = sum_word 32 (a / 2 ^ 32) (b / 2 ^ 32) c₁ in
+    let s₀ = sum_word 32 (a % 2 ^ 32) (b % 2 ^ 32) c₀ in
+    (λ i. masked 64 (sym (split a 32) i) (sym (split b 32) i) (s₁ * 2 ^ 32 + s₀))
+    ∙ masked_halves 32 (a / 2 ^ 32) (a % 2 ^ 32) (b / 2 ^ 32) (b % 2 ^ 32) s₁ s₀ (low a) (low b) (low _) (low _)
+    ∙ ap₂ (λ (x y : ℕ). x * 2 ^ 32 + y)
+    (masked_carries 32 (a / 2 ^ 32) (b / 2 ^ 32) c₁ (shr_lt 32 32 ha) (shr_lt 32 32 hb) (bit_at_lt _ 31))
+    (masked_carries 32 (a % 2 ^ 32) (b % 2 ^ 32) c₀ (low a) (low b) (bit_at_lt _ 31))
 
 -- ---- the sum as a program works it out: two wrapping steps, the carry-in being the top bit of its word
 

@@ -1,4 +1,3 @@
 pub mod Adder
 pub mod Subtract
-pub mod Columns
 pub mod Rules

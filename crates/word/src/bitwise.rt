@@ -40,9 +40,5 @@ pub fn select(cond: u64, t: u64, f: u64) -> u64
 pub fn bxor_multi(sources: &[u64]) -> u64
     ensures { result ≡ xor_all sources.now }
 {
-    let mut all: u64 = 0;
-    for i in 0..sources.len() {
-        all = all ^ sources[i];
-    }
-    all
+    sources.iter().fold(0, |all, source| all ^ source)
 }

@@ -3,7 +3,7 @@ ghost use Rattle.std.specs.Prelude.{◌≡◌};
 ghost use Rattle.word.specs.Hints.{quotient_of, remainder_of, zeros_above, mirrored};
 
 // What hint 1 answers.
-#[derive(Drop)]
+#[derive(Clone, Copy, PartialEq, Eq, Debug)]
 pub struct Division {
     pub quotient: u64,
     pub remainder: u64,
@@ -30,7 +30,7 @@ pub fn divide(a: u64, b: u64) -> Division
 pub fn leading_zeros(x: u64) -> u64
     ensures { result ≡ zeros_above 64 x }
 {
-    u64::leading_zeros(x) as u64
+    x.leading_zeros() as u64
 }
 
 // Hint 3: the inputs in reverse order. The hint has as many outputs as inputs; where the two
@@ -38,10 +38,8 @@ pub fn leading_zeros(x: u64) -> u64
 pub fn mirror(inputs: &[u64], outputs: &mut [u64])
     ensures { outputs.new ≡ mirrored inputs.now outputs.old }
 {
-    let count = inputs.len();
-    if count == outputs.len() {
-        for j in 0..count {
-            outputs[j] = inputs[count - 1 - j];
-        }
+    if inputs.len() == outputs.len() {
+        outputs.copy_from_slice(inputs);
+        outputs.reverse();
     }
 }

@@ -1,24 +1,17 @@
 -- `word::bitwise::bxor_multi` meets its contract. Assumes nothing.
-use Rattle.std.proofs.Common.{◌≡◌, ℕ, ◌+◌, ◌<◌, List, ◌∷◌, length, get_or, drop, sym, ap, ◌∙◌, add-one, arith, drop-cons}
-use lib.Bits.{bit_xor, xor_zero_l, xor_zero_r}
-use lib.Seq.{drop-length}
+use Rattle.std.proofs.Common.{◌≡◌, ℕ, List, [], ◌∷◌, ◌++◌, rules, refl, subst, sym, ap, ◌∙◌, bit_xor}
+use Rattle.std.proofs.lemmas.Fn.{fold_over, slice_gives, fronts}
+use lib.Bits.{xor_zero_l, xor_zero_r}
 use Rattle.common.proofs.Digits.{xor_assoc}
 use Rattle.word.specs.Bitwise.{xor_all}
 use Rattle.word.proofs.bitwise.bxor_multi.Goals as goal
 
-pub loop-i-init : goal.loop-i-init
-loop-i-init c = xor_zero_l _
-
-pub loop-i-preserved : goal.loop-i-preserved
-loop-i-preserved c =
-    let s = c.args.sources.now in
-    let i = c.loop-i.i in
-    let all = c.loop-i.all in
-    let within : i < length s = omega arith in
-    xor_assoc all (get_or s i 0) (xor_all (drop (i + 1) s)) ∙ ap (λ (l : List ℕ). bit_xor all (xor_all l)) (ap (λ (n : ℕ). get_or s i 0 ∷ drop n s) (add-one i) ∙ sym (drop-cons s i 0 within)) ∙ c.loop-i.invariant
+-- one more source
+xor-more : (xs : List ℕ) (x a b : ℕ) → a ≡ xor_all xs → b ≡ bit_xor a x → b ≡ xor_all (xs ++ (x ∷ []))
+xor-more [] x a b e f = f ∙ ap (λ (n : ℕ). bit_xor n x) e ∙ xor_zero_l x ∙ sym (xor_zero_r x)
+xor-more (y ∷ ys) x a b e f = f ∙ ap (λ (n : ℕ). bit_xor n x) e ∙ xor_assoc y (xor_all ys) x ∙ ap (bit_xor y) (xor-more ys x (xor_all ys) (bit_xor (xor_all ys) x) (λ i. xor_all ys) (λ i. bit_xor (xor_all ys) x))
 
 pub returns : goal.returns
 returns c =
-    let s = c.args.sources.now in
-    let done : c.loop-i.i ≡ length s = omega arith in
-    sym (xor_zero_r c.loop-i.all) ∙ ap (λ (l : List ℕ). bit_xor c.loop-i.all (xor_all l)) (sym (drop-length s) ∙ ap (λ (n : ℕ). drop n s) (sym done)) ∙ c.loop-i.invariant
+    subst (λ l. c.fold.result ≡ xor_all l) c.iter.ensures.rest
+    (fold_over fronts (λ y. y.now) _ (λ ys a. a ≡ xor_all ys) _ (λ ys a x b f' j k. search (rules, xor-more)) _ _ _ _ (slice_gives c.iter.result) refl c.fold.ensures.ran)

@@ -1,12 +1,11 @@
 -- `word::hints::leading_zeros` meets its contract: the machine's count is ours. Assumes nothing.
 use Rattle.std.proofs.Common.{◌≡◌, ℕ, zero, suc, ◌+◌, ◌*◌, ◌%◌, ◌^◌, ◌<◌, ◌≤◌, cond, eqb, sym, refl, ap, ◌∙◌, mod-lt, pow-suc, one-add, arith, pow_pos}
 use lib.Pow.{split}
-use lib.Count.{count_leading_zeros, leading_le, leading_unique}
+use lib.Count.{count_leading_zeros, leading_unique}
 use Rattle.common.specs.Bits.{bit_at}
 use Rattle.word.specs.Hints.{zeros_above}
 use Rattle.common.proofs.Digits.{bit_at_lt, top_bit}
-use Rattle.word.proofs.hints.leading_zeros.Statement.{statement}
-use Rattle.word.proofs.hints.leading_zeros.Tie as tie
+use Rattle.word.proofs.hints.leading_zeros.Goals as goal
 
 -- x has m bits, and the rest of the w are zeros
 Length : (w x n : ℕ) → Type 0
@@ -32,5 +31,5 @@ counted : (w x : ℕ) → x < 2 ^ w → zeros_above w x ≡ count_leading_zeros 
 unfolding Length
 counted w x h = let l = length w x h in leading_unique w x (zeros_above w x) l.0 l.1 l.2 l.3
 
-pub leading_zeros_spec : {M : Type 1} → statement M
-leading_zeros_spec = tie.close (tie.spec (λ c. omega (arith, leading_le 64 c.args.x)) (λ c. sym (counted 64 c.args.x c.ranges.x.fits)))
+pub returns : goal.returns
+returns c = sym (counted 64 c.args.x c.ranges.x.fits)
