@@ -19,7 +19,7 @@ use Rattle.bytecode.specs.Encode.{encode, fields_as, FormedAs, Formed}
 use Rattle.bytecode.specs.Parse.{parse, read_as, whole}
 use Rattle.bytecode.specs.declared.opcode.Shape.{Shape}
 use Rattle.bytecode.specs.declared.opcode.Shape.TheVariants.{Unknown, NotCarried, Fixed, Shift, Many, Hint}
-use Rattle.bytecode.specs.declared.layout.Size.TheVariants.{Bytes}
+use Rattle.std.proofs.Common.{Ok}
 use Rattle.bytecode.specs.Working.{Carried, places_as}
 use Rattle.bytecode.proofs.Tables.{opcode_named}
 use Rattle.bytecode.proofs.Words.{length-words}
@@ -35,7 +35,7 @@ le_of a b c d ha hb hc hd =
     let z = digit (c + 256 * d) d c (omega arith) hc in
     rw (x.0, x.1, y.0, y.1, z.0, z.1, mod-eq_of_lt hd)
 
-drop_next : (s : List ℕ) (at k : ℕ) → at < length s → at + 1 ≡ k → drop at s ≡ get_or s at 0 ∷ drop k s
+pub drop_next : (s : List ℕ) (at k : ℕ) → at < length s → at + 1 ≡ k → drop at s ≡ get_or s at 0 ∷ drop k s
 drop_next s at k h e = rw (← e, add-one) (drop-cons s at 0 h)
 
 module _ (s : List ℕ) (ok : AreBytes s) where
@@ -66,7 +66,7 @@ module _ (s : List ℕ) (ok : AreBytes s) where
       rw g (ap (λ (r : List ℕ). word_at s at ∷ r) (words_join (at + 4) a b k (omega arith)))
 
   -- the fields of a whole instruction, laid again
-  fields_back : (sh : Shape) (op n : ℕ) → size_as sh s ≡ Bytes (suc n) → suc n ≤ length s → fields_as sh (read_as sh op s) ≡ take n (drop 1 s)
+  fields_back : (sh : Shape) (op n : ℕ) → size_as sh s ≡ Ok (suc n) → suc n ≤ length s → fields_as sh (read_as sh op s) ≡ take n (drop 1 s)
   unfolding size_as read_as
   fields_back Unknown op n e h = absurd (never _ _ e)
   fields_back NotCarried op n e h = absurd (never _ _ e)
@@ -98,7 +98,7 @@ module _ (s : List ℕ) (ok : AreBytes s) where
       rw (length-words s 9 d, length-words s (17 + 4 * d) i, length-words s (17 + 4 * (d + i)) o, words_join (17 + 4 * d) i o (17 + 4 * (d + i)) (omega arith), j)
       (les_words 1 (suc (suc (d + suc (suc (i + o))))) (omega arith) ∙ rw g)
 
-  back_at : (n : ℕ) → size_as (shape_of (get_or s 0 0)) s ≡ Bytes n → n ≤ length s → encode (read_as (shape_of (get_or s 0 0)) (get_or s 0 0) s) ≡ take n s
+  back_at : (n : ℕ) → size_as (shape_of (get_or s 0 0)) s ≡ Ok n → n ≤ length s → encode (read_as (shape_of (get_or s 0 0)) (get_or s 0 0) s) ≡ take n s
   unfolding read_as
   back_at ℕ.zero e h = absurd (omega (arith, positive (shape_of (get_or s 0 0)) s 0 e))
   back_at (suc m) e h =

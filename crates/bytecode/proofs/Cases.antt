@@ -7,13 +7,14 @@ use lib.ListN.{length, get_or, drop}
 use lib.Dec.{eqb}
 use Rattle.refusal.specs.Number.{number_of}
 use Rattle.refusal.specs.declared.Refusal.{Refusal}
+use Rattle.refusal.specs.declared.RefusedAt.{RefusedAt}
 use Rattle.refusal.proofs.Numbers.{number_names_one}
 use Rattle.bytecode.specs.Instruction.{Inst, inst}
 use Rattle.bytecode.specs.Parse.{whole, refused, told}
 use Rattle.bytecode.specs.declared.instruction.Instruction.{Instruction}
 use Rattle.bytecode.specs.declared.instruction.Instruction.TheVariants as I
 use Rattle.bytecode.specs.declared.decoder.Decoded.{Decoded}
-use Rattle.bytecode.specs.declared.decoder.Decoded.TheVariants as D
+use Rattle.std.proofs.Common.{Result, Ok, Err}
 use Rattle.bytecode.proofs.Words.{length-words}
 use Rattle.bytecode.proofs.Parses.{clash}
 
@@ -65,24 +66,26 @@ case_inst s (I.BxorMulti d n) = rw length-words
 case_inst s (I.Hint x d i o) = rw (length-words, length-words, length-words)
 
 -- an instruction that was told is that case
-pub told_whole : (s : List ℕ) (d : Decoded) (i : Inst) (n : ℕ) → told s d ≡ whole i n → d ≡ D.Instruction (enum_case i) n
+pub told_whole : (s : List ℕ) (d : Result Decoded RefusedAt) (i : Inst) (n : ℕ) → told s d ≡ whole i n → d ≡ Ok (record { instruction = enum_case i; length = n })
 unfolding told
-told_whole s (D.Instruction j m) i n e =
-    let p : inst s j ≡ i = cc in
-    let q : m ≡ n = cc in
-    ap₂ D.Instruction (sym (case_inst s j) ∙ ap enum_case p) q
-told_whole s (D.Refused r at) i n e = absurd (clash (number_of r) at i n e)
+told_whole s (Ok d) i n e =
+    let p : inst s d.instruction ≡ i = cc in
+    let q : d.length ≡ n = cc in
+    ap₂ (λ (j : Instruction) (m : ℕ). Ok (record { instruction = j; length = m })) (sym (case_inst s d.instruction) ∙ ap enum_case p) q
+told_whole s (Err r) i n e = absurd (clash (number_of r.refusal) r.offset i n e)
 
 -- a refusal that was told, by its number
-told_refused : (s : List ℕ) (d : Decoded) (r : Refusal) (at : ℕ) → told s d ≡ refused (number_of r) at → d ≡ D.Refused r at
+told_refused : (s : List ℕ) (d : Result Decoded RefusedAt) (r : RefusedAt) → told s d ≡ refused (number_of r.refusal) r.offset → d ≡ Err r
 unfolding told
-told_refused s (D.Instruction j m) r at e = absurd (clash (number_of r) at (inst s j) m (sym e))
-told_refused s (D.Refused q o) r at e =
-    let p : number_of q ≡ number_of r = cc in
-    let k : o ≡ at = cc in
-    ap₂ D.Refused (number_names_one q r p) k
+told_refused s (Ok d) r e = absurd (clash (number_of r.refusal) r.offset (inst s d.instruction) d.length (sym e))
+told_refused s (Err q) r e =
+    let p : number_of q.refusal ≡ number_of r.refusal = cc in
+    let k : q.offset ≡ r.offset = cc in
+    ap₂ (λ (f : Refusal) (o : ℕ). Err (record { refusal = f; offset = o })) (number_names_one q.refusal r.refusal p) k
 
-pub decoded_one : (s : List ℕ) (a b : Decoded) → told s a ≡ told s b → a ≡ b
+pub decoded_one : (s : List ℕ) (a b : Result Decoded RefusedAt) → told s a ≡ told s b → a ≡ b
 unfolding told
-decoded_one s a (D.Instruction i n) e = told_whole s a (inst s i) n e ∙ ap (λ (j : Instruction). D.Instruction j n) (case_inst s i)
-decoded_one s a (D.Refused r at) e = told_refused s a r at e
+decoded_one s a (Ok d) e =
+    told_whole s a (inst s d.instruction) d.length e
+    ∙ ap (λ (j : Instruction). Ok (record { instruction = j; length = d.length })) (case_inst s d.instruction)
+decoded_one s a (Err r) e = told_refused s a r e

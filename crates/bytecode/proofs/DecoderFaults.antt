@@ -20,8 +20,8 @@ use Rattle.bytecode.specs.Faults.{opcodes, TooShort, DecoderFault, unknown_opcod
 use Rattle.bytecode.specs.Working.{variant_over}
 use Rattle.bytecode.specs.declared.opcode.Shape.{Shape}
 use Rattle.bytecode.specs.declared.opcode.Shape.TheVariants.{Unknown, NotCarried, Fixed, Shift, Many, Hint}
-use Rattle.bytecode.specs.declared.layout.Size.{Size}
-use Rattle.bytecode.specs.declared.layout.Size.TheVariants.{Bytes, Refused}
+use Rattle.refusal.specs.declared.Refusal.{Refusal}
+use Rattle.std.proofs.Common.{Result, Ok, Err}
 use Rattle.bytecode.proofs.Tables.{settle, all_lines, look_up}
 use Rattle.bytecode.proofs.Parses.{clash, variant_of_lem}
 
@@ -66,9 +66,9 @@ of_uncarried op e = ap (λ (n : ℕ). is_not_carried (shape_of n)) e
 
 -- ---- 6
 
-abbrev shorter : ℕ → Size → Bool
-shorter m (Bytes n) = ltb m n
-shorter m (Refused r) = false
+abbrev shorter : ℕ → Result ℕ Refusal → Bool
+shorter m (Ok n) = ltb m n
+shorter m (Err r) = false
 
 abbrev short : Shape → List ℕ → Bool
 short sh s = shorter (length s) (size_as sh s)
@@ -142,9 +142,9 @@ module _ (s : List ℕ) where
 
 -- ---- what they say together is what the decoder answers
 
-abbrev pub length_of : Size → ℕ
-length_of (Bytes n) = n
-length_of (Refused r) = 0
+abbrev pub length_of : Result ℕ Refusal → ℕ
+length_of (Ok n) = n
+length_of (Err r) = 0
 
 -- a number that is given, or the instruction where it is 0
 abbrev pub answered : ℕ → Parsed → Parsed
@@ -155,10 +155,10 @@ module _ (s : List ℕ) (some : eqb (length s) 0 ≡ false) where
   abbrev op' : ℕ
   op' = get_or s 0 0
 
-  abbrev entire : Size → Parsed
+  abbrev entire : Result ℕ Refusal → Parsed
   entire z = whole (read s) (length_of z)
 
-  carried : (n : ℕ) → sized (Bytes n) s ≡ answered (cond (ltb (length s) n) 6 (cond (variant_over op' s) 7 0)) (whole (read s) n)
+  carried : (n : ℕ) → sized (Ok n) s ≡ answered (cond (ltb (length s) n) 6 (cond (variant_over op' s) 7 0)) (whole (read s) n)
   unfolding sized
   carried n = rw (variant_of_lem op' s) (go (ltb (length s) n) (variant_over op' s))
     where

@@ -1,7 +1,7 @@
 -- What a parse says of the bytes, and the other way about. Assumes nothing.
 use Prim.Native.Nat.{ℕ, ◌+◌, ◌*◌, ◌≤◌, ◌<◌}
 use mathlib.Core.Path.{◌≡◌, refl, sym, ap, ◌∙◌}
-use mathlib.Core.List.{List}
+use mathlib.Core.List.{List, [], ◌∷◌}
 use mathlib.Core.Bool.{Bool, true, false}
 use native.Mathlib.Omega.{arith}
 use borrow.Author.Tests.{eq-eqb, ne_eqb, le-ltb, ltb-false}
@@ -16,17 +16,16 @@ use Rattle.bytecode.specs.Parse.{Parsed, whole, refused, refuse, parse, sized, r
 use Rattle.bytecode.specs.Working.{Carried, places_as, variant_over}
 use Rattle.bytecode.specs.declared.opcode.Shape.{Shape}
 use Rattle.bytecode.specs.declared.opcode.Shape.TheVariants.{Unknown, NotCarried, Fixed, Shift, Many, Hint}
-use Rattle.bytecode.specs.declared.layout.Size.{Size}
-use Rattle.bytecode.specs.declared.layout.Size.TheVariants.{Bytes, Refused}
+use Rattle.std.proofs.Common.{Result, Ok, Err}
 use Rattle.bytecode.proofs.Tables.{settle}
 
 -- ---- an instruction's length
 
 -- only a carried opcode has one
-pub never : (r : Refusal) (n : ℕ) → Refused r ≡ Bytes n → ⊥
+pub never : (r : Refusal) (n : ℕ) → Err r ≡ Ok n → ⊥
 never r n e = let z : ◌≡◌ {A = ℕ} 0 1 = cc in omega arith
 
-pub has_size : (sh : Shape) (s : List ℕ) (n : ℕ) → size_as sh s ≡ Bytes n → Carried sh
+pub has_size : (sh : Shape) (s : List ℕ) (n : ℕ) → size_as sh s ≡ Ok n → Carried sh
 unfolding size_as
 has_size Unknown s n e = never _ n e
 has_size NotCarried s n e = never _ n e
@@ -36,7 +35,7 @@ has_size Many s n e = tt
 has_size Hint s n e = tt
 
 -- and it is a byte or more
-pub positive : (sh : Shape) (s : List ℕ) (n : ℕ) → size_as sh s ≡ Bytes n → 0 < n
+pub positive : (sh : Shape) (s : List ℕ) (n : ℕ) → size_as sh s ≡ Ok n → 0 < n
 unfolding size_as
 positive Unknown s n e = absurd (never _ n e)
 positive NotCarried s n e = absurd (never _ n e)
@@ -69,7 +68,7 @@ pub sources_of : (sh : Shape) (op : ℕ) (s : List ℕ) → (read_as sh op s).so
 sources_of sh op s = (fields_of_lem sh op s).2
 
 -- the registers of a whole instruction lie in the bytes
-pub places_in : (sh : Shape) (s : List ℕ) (n : ℕ) → size_as sh s ≡ Bytes n → n ≤ length s
+pub places_in : (sh : Shape) (s : List ℕ) (n : ℕ) → size_as sh s ≡ Ok n → n ≤ length s
     → ((places_as sh s).to + 4 * (places_as sh s).dests ≤ length s) × ((places_as sh s).from + 4 * (places_as sh s).sources ≤ length s)
 unfolding size_as places_as
 places_in Unknown s n e h = absurd (never _ n e)
@@ -93,13 +92,21 @@ pub parse_none : (s : List ℕ) → length s ≡ 0 → parse s ≡ refused 6 0
 unfolding parse
 parse_none s e = rw (eq-eqb (length s) 0 e)
 
+-- the first byte, where there is one
+pub first_is : (s : List ℕ) (op : ℕ) → true ≡ ltb 0 (length s) → op ≡ get_or s 0 op → (0 < length s) × (op ≡ get_or s 0 0)
+first_is [] op e h = let z : ◌≡◌ {A = ℕ} 0 1 = cc in absurd (omega arith)
+first_is (x ∷ s) op e h = (omega arith, h)
+
 -- once there is a byte and the length is known
-pub parse_is : (s : List ℕ) (sh : Shape) (z z' : Size) → (length s ≡ 0 → ⊥) → sh ≡ shape_of (get_or s 0 0) → z ≡ size_as sh s → z ≡ z' → parse s ≡ sized z' s
+pub parse_is : (s : List ℕ) (op : ℕ) (sh : Shape) (z z' : Result ℕ Refusal) → (0 < length s) × (op ≡ get_or s 0 0) → sh ≡ shape_of op → z ≡ size_as sh s → z ≡ z'
+    → parse s ≡ sized z' s
 unfolding parse
-parse_is s sh z z' n e f g = rw (ne_eqb (length s) 0 n, ← e, ← f, g)
+parse_is s op sh z z' h e f g =
+    let d : shape_of (get_or s 0 0) ≡ sh = rw (← h.1) (sym e) in
+    rw (ne_eqb (length s) 0 (λ n. omega (arith, h.0)), d, ← f, g)
 
 -- once the instruction is known to be whole
-pub parse_of : (s : List ℕ) (sh : Shape) (n : ℕ) → 0 < n → n ≤ length s → shape_of (get_or s 0 0) ≡ sh → size_as sh s ≡ Bytes n → shift_bad_variant (read_as sh (get_or s 0 0) s) ≡ false
+pub parse_of : (s : List ℕ) (sh : Shape) (n : ℕ) → 0 < n → n ≤ length s → shape_of (get_or s 0 0) ≡ sh → size_as sh s ≡ Ok n → shift_bad_variant (read_as sh (get_or s 0 0) s) ≡ false
     → parse s ≡ whole (read_as sh (get_or s 0 0) s) n
 unfolding parse sized
 parse_of s sh n p h e f v = rw (ne_eqb (length s) 0 (λ z. omega arith), e, f, le-ltb (length s) n h, e, v)
@@ -114,21 +121,21 @@ refuse_whole : (t : Bool) (r : Refusal) (p : Parsed) (i : Inst) (n : ℕ) → re
 refuse_whole true r p i n e = absurd (clash _ 0 i n e)
 refuse_whole false r p i n e = (refl, e)
 
-pub record Read (s : List ℕ) (i : Inst) (z : Size) (n : ℕ) : Type 0 where
-  pub size : z ≡ Bytes n
+pub record Read (s : List ℕ) (i : Inst) (z : Result ℕ Refusal) (n : ℕ) : Type 0 where
+  pub size : z ≡ Ok n
   pub within : n ≤ length s
   pub is_read : i ≡ read s
   pub variant : shift_bad_variant i ≡ false
 
-sized_whole : (z : Size) (s : List ℕ) (i : Inst) (n : ℕ) → sized z s ≡ whole i n → Read s i z n
+sized_whole : (z : Result ℕ Refusal) (s : List ℕ) (i : Inst) (n : ℕ) → sized z s ≡ whole i n → Read s i z n
 unfolding sized
-sized_whole (Refused r) s i n e = absurd (clash _ 0 i n e)
-sized_whole (Bytes m) s i n e =
+sized_whole (Err r) s i n e = absurd (clash _ 0 i n e)
+sized_whole (Ok m) s i n e =
     let p = refuse_whole (ltb (length s) m) R.Truncated (refuse (shift_bad_variant (read s)) R.BadShift (whole (read s) m)) i n e in
     let q = refuse_whole (shift_bad_variant (read s)) R.BadShift (whole (read s) m) i n p.1 in
     let f : m ≡ n = cc q.1 in
     let g : i ≡ read s = cc q.1 in
-    record { size = ap Bytes f; within = omega (arith, ltb-false (length s) m p.0); is_read = g; variant = ap shift_bad_variant g ∙ q.0 }
+    record { size = ap Ok f; within = omega (arith, ltb-false (length s) m p.0); is_read = g; variant = ap shift_bad_variant g ∙ q.0 }
 
 pub whole_read : (s : List ℕ) (i : Inst) (n : ℕ) → parse s ≡ whole i n → Read s i (size_as (shape_of (get_or s 0 0)) s) n
 unfolding parse
@@ -140,10 +147,10 @@ refuse_at : (t : Bool) (q : Refusal) (p : Parsed) (r o : ℕ) → (p ≡ refused
 refuse_at true q p r o h e = cc
 refuse_at false q p r o h e = h e
 
-sized_at : (z : Size) (s : List ℕ) (r o : ℕ) → sized z s ≡ refused r o → o ≡ 0
+sized_at : (z : Result ℕ Refusal) (s : List ℕ) (r o : ℕ) → sized z s ≡ refused r o → o ≡ 0
 unfolding sized
-sized_at (Refused q) s r o e = cc
-sized_at (Bytes n) s r o e =
+sized_at (Err q) s r o e = cc
+sized_at (Ok n) s r o e =
     refuse_at (ltb (length s) n) R.Truncated _ r o
     (refuse_at (shift_bad_variant (read s)) R.BadShift (whole (read s) n) r o (λ z. absurd (clash r o (read s) n (sym z))))
     e

@@ -1,10 +1,9 @@
 -- Document 01, "Instruction layout": little-endian u32 fields, read and written, and an instruction's length. Assumes nothing.
-use Rattle.std.specs.Prelude.{ℕ, ◌+◌, ◌*◌, ◌/◌, ◌%◌, ◌<◌, List, [], ◌∷◌, ◌++◌, get_or}
+use Rattle.std.specs.Prelude.{ℕ, ◌+◌, ◌*◌, ◌/◌, ◌%◌, ◌<◌, List, [], ◌∷◌, ◌++◌, get_or, Result, Ok, Err}
+use Rattle.refusal.specs.declared.Refusal.{Refusal}
 use Rattle.refusal.specs.declared.Refusal.TheVariants.{UnknownOpcode, NotCarried}
 use Rattle.bytecode.specs.declared.opcode.Shape.{Shape}
 use Rattle.bytecode.specs.declared.opcode.Shape.TheVariants as S
-use Rattle.bytecode.specs.declared.layout.Size.{Size}
-use Rattle.bytecode.specs.declared.layout.Size.TheVariants.{Bytes, Refused}
 
 -- every place holds a byte, as of a slice of u8
 abbrev pub AreBytes : List ℕ → Type 0
@@ -36,15 +35,15 @@ les (x ∷ xs) = le 4 x ++ les xs
 -- ---- an instruction's length
 
 -- of a hint with d dimensions; its input count stands after them, its output count after that
-abbrev pub hint_size : List ℕ → ℕ → Size
-hint_size s d = Bytes (17 + 4 * (d + word_at s (9 + 4 * d) + word_at s (13 + 4 * d)))
+abbrev pub hint_size : List ℕ → ℕ → Result ℕ Refusal
+hint_size s d = Ok (17 + 4 * (d + word_at s (9 + 4 * d) + word_at s (13 + 4 * d)))
 
 -- the length in bytes that the counts of the instruction give it. A count that cannot be read reads what is there: the
 -- length passes the end all the same, since every field before the registers is in it
-unfoldable pub size_as : Shape → List ℕ → Size
-size_as S.Unknown s = Refused UnknownOpcode
-size_as S.NotCarried s = Refused NotCarried
-size_as (S.Fixed d n p) s = Bytes (1 + 4 * (d + n + p))
-size_as S.Shift s = Bytes 11
-size_as S.Many s = Bytes (9 + 4 * word_at s 5)
+unfoldable pub size_as : Shape → List ℕ → Result ℕ Refusal
+size_as S.Unknown s = Err UnknownOpcode
+size_as S.NotCarried s = Err NotCarried
+size_as (S.Fixed d n p) s = Ok (1 + 4 * (d + n + p))
+size_as S.Shift s = Ok 11
+size_as S.Many s = Ok (9 + 4 * word_at s 5)
 size_as S.Hint s = hint_size s (word_at s 5)

@@ -1,17 +1,15 @@
 -- Document 01, "Numbered refusals": what the decoder answers, the refusals in their order. Assumes nothing.
-use Rattle.std.specs.Prelude.{ℕ, ◌+◌, ◌*◌, List, [], ◌∷◌, Bool, cond, length, get_or, eqb, ltb}
+use Rattle.std.specs.Prelude.{ℕ, ◌+◌, ◌*◌, List, [], ◌∷◌, Bool, cond, length, get_or, eqb, ltb, Result, Ok, Err}
 use Rattle.refusal.specs.Number.{number_of}
 use Rattle.refusal.specs.declared.Refusal.{Refusal}
 use Rattle.refusal.specs.declared.Refusal.TheVariants as R
+use Rattle.refusal.specs.declared.RefusedAt.{RefusedAt}
 use Rattle.bytecode.specs.Opcode.{shape_of}
 use Rattle.bytecode.specs.Layout.{word_at, words, size_as}
 use Rattle.bytecode.specs.Instruction.{Inst, make, inst, shift_bad_variant}
 use Rattle.bytecode.specs.declared.opcode.Shape.{Shape}
 use Rattle.bytecode.specs.declared.opcode.Shape.TheVariants as S
-use Rattle.bytecode.specs.declared.layout.Size.{Size}
-use Rattle.bytecode.specs.declared.layout.Size.TheVariants as Z
 use Rattle.bytecode.specs.declared.decoder.Decoded.{Decoded}
-use Rattle.bytecode.specs.declared.decoder.Decoded.TheVariants as D
 
 -- an instruction with its length in bytes, or a refusal by its number with an offset from the start of the part
 pub data Parsed : Type 0 where
@@ -19,9 +17,9 @@ pub data Parsed : Type 0 where
   refused : ℕ → ℕ → Parsed
 
 -- what each case of the decoder's answer says, `s` being the bytes that it was handed
-unfoldable pub told : List ℕ → Decoded → Parsed
-told s (D.Instruction i n) = whole (inst s i) n
-told s (D.Refused r at) = refused (number_of r) at
+unfoldable pub told : List ℕ → Result Decoded RefusedAt → Parsed
+told s (Ok d) = whole (inst s d.instruction) d.length
+told s (Err r) = refused (number_of r.refusal) r.offset
 
 -- the instruction that the bytes hold, given its shape
 unfoldable pub read_as : Shape → ℕ → List ℕ → Inst
@@ -45,9 +43,9 @@ abbrev pub refuse : Bool → Refusal → Parsed → Parsed
 refuse t r p = cond t (refused (number_of r) 0) p
 
 -- 4 and 5 are what the opcode table says; then 6, then 7 for the variant
-unfoldable pub sized : Size → List ℕ → Parsed
-sized (Z.Refused r) s = refused (number_of r) 0
-sized (Z.Bytes n) s = refuse (ltb (length s) n) R.Truncated (refuse (shift_bad_variant (read s)) R.BadShift (whole (read s) n))
+unfoldable pub sized : Result ℕ Refusal → List ℕ → Parsed
+sized (Err r) s = refused (number_of r) 0
+sized (Ok n) s = refuse (ltb (length s) n) R.Truncated (refuse (shift_bad_variant (read s)) R.BadShift (whole (read s) n))
 
 -- the instruction at the start of the bytes, or the first refusal; no bytes at all are Truncated
 unfoldable pub parse : List ℕ → Parsed

@@ -3,23 +3,23 @@ ghost use Rattle.std.specs.Prelude.{◌≡◌};
 ghost use Rattle.bytecode.specs.Opcode.{shape_of};
 ghost use Rattle.bytecode.specs.Instruction.{inst};
 ghost use Rattle.bytecode.specs.Parse.{parse, told, read_as};
-ghost use Rattle.bytecode.specs.Working.{hint_of, fields_of, variant_over, Carried};
+ghost use Rattle.bytecode.specs.Working.{found, hint_of, fields_of, variant_over, Carried};
 
 use crate::instruction::Instruction;
-use crate::layout::{Size, byte, size_of, word};
+use crate::layout::{HintCounts, byte, size_of, word};
 use crate::opcode::shape_of;
-use common::wide;
-use refusal::Refusal;
+use refusal::{Refusal, RefusedAt};
+use shift::bad_variant;
 
-// An instruction with its length in bytes, or a refusal with an offset from the start of the part.
-#[derive(Drop)]
-pub enum Decoded {
-    Instruction(Instruction, usize),
-    Refused(Refusal, usize),
+// An instruction with its length in bytes.
+#[derive(Clone, Copy, PartialEq, Eq, Debug)]
+pub struct Decoded {
+    pub instruction: Instruction,
+    pub length: usize,
 }
 
 // The first five fields, as u32s.
-#[derive(Drop)]
+#[derive(Clone, Copy)]
 struct Fields {
     a: u32,
     b: u32,
@@ -41,16 +41,20 @@ fn first_fields(code: &[u8]) -> Fields
     }
 }
 
-// The two later counts of a hint stand after its dimensions.
-fn hint(code: &[u8], id: u32, dimensions: u32) -> Instruction
-    ensures { result ≡ hint_of code.now id dimensions }
+fn hint(code: &[u8]) -> Instruction
+    ensures { result ≡ hint_of code.now }
 {
-    let inputs = word(code, 9 + 4 * wide(dimensions));
-    let outputs = word(code, 13 + 4 * wide(dimensions));
-    Instruction::Hint(id, dimensions, inputs, outputs)
+    let counts = HintCounts::read(code);
+    Instruction::Hint(
+        word(code, 1),
+        counts.dimensions,
+        counts.inputs,
+        counts.outputs,
+    )
 }
 
 // The instruction that a carried opcode and the bytes after it hold.
+#[tactic(auto, unfolding(crate::specs::Instruction::inst, crate::specs::Parse::read_as))]
 fn instruction_of(code: &[u8], op: u8) -> Instruction
     ensures { Carried (shape_of op) → inst code.now result ≡ read_as (shape_of op) op code.now }
 {
@@ -75,39 +79,43 @@ fn instruction_of(code: &[u8], op: u8) -> Instruction
         0x63 => Instruction::AssertNonZero(f.a, f.b),
         0x64 => Instruction::AssertFalse(f.a, f.b),
         0x65 => Instruction::AssertTrue(f.a, f.b),
-        _ => hint(code, f.a, f.b),
+        _ => hint(code),
     }
 }
 
-// Whether this is a shift with a variant over 7. Its amount is the program check's to judge.
+// Whether this is a shift with a variant over 7, told by the opcode byte as `shift_bad_variant` has it. Its amount is the program
+// check's to judge. The opcode is read once, and handed on beside the bytes.
 fn variant_over(code: &[u8], op: u8) -> bool
     ensures { result ≡ variant_over op code.now }
 {
-    if op == 0x10 {
-        return 7 < byte(code, 9);
-    }
-    false
+    op == 0x10 && bad_variant(byte(code, 9))
 }
 
 // The instruction at the start of the bytes, or the first refusal of 4 to 7. What follows the instruction is not looked at.
-pub fn decode(code: &[u8]) -> Decoded
+fn first_instruction(code: &[u8]) -> Result<Decoded, Refusal>
+    ensures { found code.now result ≡ parse code.now }
+{
+    let Some(&op) = code.first() else {
+        return Err(Refusal::Truncated);
+    };
+    let length = size_of(code, shape_of(op))?;
+    let short = code.len() < length;
+    if short {
+        return Err(Refusal::Truncated);
+    }
+    if variant_over(code, op) {
+        return Err(Refusal::BadShift);
+    }
+    Ok(Decoded {
+        instruction: instruction_of(code, op),
+        length,
+    })
+}
+
+// Each refusal points at the opcode byte.
+#[tactic(auto, unfolding(crate::specs::Parse::told, crate::specs::Working::found))]
+pub fn decode(code: &[u8]) -> Result<Decoded, RefusedAt>
     ensures { told code.now result ≡ parse code.now }
 {
-    if code.len() == 0 {
-        return Decoded::Refused(Refusal::Truncated, 0);
-    }
-    let op = code[0];
-    match size_of(code, shape_of(op)) {
-        Size::Refused(r) => Decoded::Refused(r, 0),
-        Size::Bytes(n) => {
-            let short = code.len() < n;
-            if short {
-                return Decoded::Refused(Refusal::Truncated, 0);
-            }
-            if variant_over(code, op) {
-                return Decoded::Refused(Refusal::BadShift, 0);
-            }
-            Decoded::Instruction(instruction_of(code, op), n)
-        }
-    }
+    first_instruction(code).map_err(|refusal| RefusedAt { refusal, offset: 0 })
 }

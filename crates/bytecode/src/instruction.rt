@@ -2,8 +2,8 @@
 
 // A case for each carried opcode, by the Rust's names, with the fields in layout order. BxorMulti and Hint carry counts:
 // a destination and the number of sources; an id and the numbers of dimensions, inputs and outputs. Their lists stay in
-// the bytes that the instruction was decoded from.
-#[derive(Clone, Copy)]
+// the bytes that the instruction was decoded from. A shift's variant is the byte that stands there: `inst` has a meaning for each.
+#[derive(Clone, Copy, PartialEq, Eq, Debug)]
 pub enum Instruction {
     Band(u32, u32, u32),
     Bor(u32, u32, u32),

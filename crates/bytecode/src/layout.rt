@@ -1,81 +1,95 @@
 //! Reading fields, an instruction's length, and where its registers lie.
-ghost use Rattle.std.specs.Prelude.{◌≡◌, ◌+◌, ◌*◌, ◌<◌, get_or};
-ghost use Rattle.bytecode.specs.Layout.{word_at, size_as, hint_size};
-ghost use Rattle.bytecode.specs.Working.{places_at, hint_places, places_as};
+ghost use Rattle.std.specs.Prelude.{◌≡◌, get_or};
+ghost use Rattle.bytecode.specs.Layout.{word_at, size_as};
+ghost use Rattle.bytecode.specs.Working.{counts_of, size_by, places_by, places_as};
 
 use crate::opcode::Shape;
-use common::wide;
 use refusal::Refusal;
 
 // The byte at a place, 0 past the end.
 pub fn byte(code: &[u8], at: usize) -> u8
     ensures { result ≡ get_or code.now at 0 }
 {
-    if at < code.len() { code[at] } else { 0 }
-}
-
-// Four bytes as a little-endian number.
-fn le32(a: u8, b: u8, c: u8, d: u8) -> u32
-    ensures { result ≡ a + 256 * b + 65536 * c + 16777216 * d }
-{
-    a as u32 + 256 * (b as u32) + 65536 * (c as u32) + 16777216 * (d as u32)
+    code.get(at).copied().unwrap_or(0)
 }
 
 // The little-endian u32 at a place, bytes past the end counting 0.
+#[tactic(auto, using(crate::proofs::Words::word_past), unfolding(crate::specs::Layout::word_at))]
 pub fn word(code: &[u8], at: usize) -> u32
     ensures { result ≡ word_at code.now at }
 {
     if code.len() <= at {
         return 0;
     }
-    le32(
+    u32::from_le_bytes([
         byte(code, at),
         byte(code, at + 1),
         byte(code, at + 2),
         byte(code, at + 3),
-    )
+    ])
+}
+
+// The three counts of a hint.
+#[derive(Clone, Copy, PartialEq, Eq, Debug)]
+pub struct HintCounts {
+    pub dimensions: u32,
+    pub inputs: u32,
+    pub outputs: u32,
+}
+
+impl HintCounts {
+    // The input count stands after the dimensions, and the output count after that.
+    pub fn read(code: &[u8]) -> HintCounts
+        ensures { result ≡ counts_of code.now }
+    {
+        let dimensions = word(code, 5);
+        HintCounts {
+            dimensions,
+            inputs: word(code, 9 + 4 * dimensions as usize),
+            outputs: word(code, 13 + 4 * dimensions as usize),
+        }
+    }
+
+    fn size(self) -> usize
+        ensures { result ≡ size_by self }
+    {
+        17 + 4 * (self.dimensions as usize + self.inputs as usize + self.outputs as usize)
+    }
+
+    // A hint's destinations come last.
+    fn places(self) -> Places
+        ensures { result ≡ places_by self }
+    {
+        Places {
+            to: 17 + 4 * (self.dimensions as usize + self.inputs as usize),
+            dests: self.outputs as usize,
+            from: 17 + 4 * self.dimensions as usize,
+            sources: self.inputs as usize,
+        }
+    }
 }
 
 // An instruction's length by its counts, or why its opcode has none.
-#[derive(Drop)]
-pub enum Size {
-    Bytes(usize),
-    Refused(Refusal),
-}
-
-// The opcode byte and four bytes a field.
-fn fixed_size(dests: u8, sources: u8, paths: u8) -> usize
-    ensures { result ≡ 1 + 4 * (dests + sources + paths) }
-{
-    1 + 4 * (dests as usize + sources as usize + paths as usize)
-}
-
-// The input count stands after the dimensions, and the output count after that.
-fn hint_size(code: &[u8], dimensions: usize) -> Size
-    requires { dimensions < 4294967296 }
-    ensures { result ≡ hint_size code.now dimensions }
-{
-    let inputs = wide(word(code, 9 + 4 * dimensions));
-    let outputs = wide(word(code, 13 + 4 * dimensions));
-    Size::Bytes(17 + 4 * (dimensions + inputs + outputs))
-}
-
 // Counts are read wherever they would lie: one that passes the end makes a length that does so too.
-pub fn size_of(code: &[u8], shape: Shape) -> Size
+#[tactic(auto, unfolding(crate::specs::Layout::size_as))]
+pub fn size_of(code: &[u8], shape: Shape) -> Result<usize, Refusal>
     ensures { result ≡ size_as shape code.now }
 {
     match shape {
-        Shape::Unknown => Size::Refused(Refusal::UnknownOpcode),
-        Shape::NotCarried => Size::Refused(Refusal::NotCarried),
-        Shape::Fixed(d, s, n) => Size::Bytes(fixed_size(d, s, n)),
-        Shape::Shift => Size::Bytes(11),
-        Shape::Many => Size::Bytes(9 + 4 * wide(word(code, 5))),
-        Shape::Hint => hint_size(code, wide(word(code, 5))),
+        Shape::Unknown => Err(Refusal::UnknownOpcode),
+        Shape::NotCarried => Err(Refusal::NotCarried),
+        Shape::Fixed(dests, sources, paths) => {
+            Ok(1 + 4 * (dests as usize + sources as usize + paths as usize))
+        }
+        Shape::Shift => Ok(11),
+        Shape::Many => Ok(9 + 4 * word(code, 5) as usize),
+        Shape::Hint => Ok(HintCounts::read(code).size()),
     }
 }
 
 // Where an instruction's registers lie in its bytes: destinations from `to` on, sources from `from` on.
-#[derive(Drop)]
+// They are numbers and no parts of the bytes, which may be too short to be cut there.
+#[derive(Clone, Copy, PartialEq, Eq, Debug)]
 pub struct Places {
     pub to: usize,
     pub dests: usize,
@@ -83,50 +97,25 @@ pub struct Places {
     pub sources: usize,
 }
 
-// Destinations come first, but in a hint.
-fn fixed_places(dests: u8, sources: u8) -> Places
-    ensures { result ≡ places_at 1 dests (1 + 4 * dests) sources }
-{
-    Places {
-        to: 1,
-        dests: dests as usize,
-        from: 1 + 4 * (dests as usize),
-        sources: sources as usize,
-    }
-}
-
-fn hint_places(code: &[u8], dimensions: usize) -> Places
-    requires { dimensions < 4294967296 }
-    ensures { result ≡ hint_places code.now dimensions }
-{
-    let inputs = wide(word(code, 9 + 4 * dimensions));
-    let outputs = wide(word(code, 13 + 4 * dimensions));
-    Places {
-        to: 17 + 4 * (dimensions + inputs),
-        dests: outputs,
-        from: 17 + 4 * dimensions,
-        sources: inputs,
-    }
-}
-
-// None for an opcode that has no layout.
+// All are 0 for an opcode that has no layout, as `places_as` has it.
+#[tactic(auto, unfolding(crate::specs::Working::places_as))]
 pub fn places_of(code: &[u8], shape: Shape) -> Places
     ensures { result ≡ places_as shape code.now }
 {
     match shape {
-        Shape::Unknown => Places {
+        Shape::Unknown | Shape::NotCarried => Places {
             to: 0,
             dests: 0,
             from: 0,
             sources: 0,
         },
-        Shape::NotCarried => Places {
-            to: 0,
-            dests: 0,
-            from: 0,
-            sources: 0,
+        // Destinations come first, but in a hint.
+        Shape::Fixed(dests, sources, _) => Places {
+            to: 1,
+            dests: dests as usize,
+            from: 1 + 4 * dests as usize,
+            sources: sources as usize,
         },
-        Shape::Fixed(d, s, _) => fixed_places(d, s),
         Shape::Shift => Places {
             to: 1,
             dests: 1,
@@ -137,8 +126,8 @@ pub fn places_of(code: &[u8], shape: Shape) -> Places
             to: 1,
             dests: 1,
             from: 9,
-            sources: wide(word(code, 5)),
+            sources: word(code, 5) as usize,
         },
-        Shape::Hint => hint_places(code, wide(word(code, 5))),
+        Shape::Hint => HintCounts::read(code).places(),
     }
 }

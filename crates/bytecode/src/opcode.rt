@@ -2,13 +2,14 @@
 ghost use Rattle.std.specs.Prelude.{◌≡◌};
 ghost use Rattle.bytecode.specs.Opcode.{shape_of};
 
-#[derive(Drop)]
+// Unknown and NotCarried are lines of the opcode table as the others are, so they are shapes; `size_of` makes refusals of them.
+#[derive(Clone, Copy, PartialEq, Eq, Debug)]
 pub enum Shape {
     // No opcode of the source.
     Unknown,
     // An opcode of the source that is left to the Rust.
     NotCarried,
-    // Destinations, sources and path specs, each a u32, in this order.
+    // Destinations, sources and path specs, each a u32, in this order: by position, so that the table below has them as columns.
     Fixed(u8, u8, u8),
     // A destination and a source, then the bytes variant and amount.
     Shift,
@@ -18,7 +19,8 @@ pub enum Shape {
     Hint,
 }
 
-// An arm for each opcode of the source, in the order of their bytes.
+// An arm for each opcode of the source, in the order of their bytes. An opcode is its byte: any byte may stand in a program, and
+// `Instruction` is the enum of those that are carried.
 pub fn shape_of(op: u8) -> Shape
     ensures { result ≡ shape_of op }
 {
