@@ -1,4 +1,4 @@
-pub mod Left
+pub mod Fours
 pub mod Judging
 pub mod Walks
 pub mod Soundness

@@ -1,14 +1,13 @@
 -- Document 01, "Numbered refusals": what the program check answers. Assumes nothing.
-use Rattle.std.specs.Prelude.{ℕ, ◌+◌, List, [], ◌∷◌, Bool, false, cond, not, ◌&&◌, ◌||◌, eqb, ltb, leb, length, get_or, drop}
+use Rattle.std.specs.Prelude.{ℕ, ◌+◌, List, [], ◌∷◌, Bool, false, cond, not, ◌&&◌, ◌||◌, eqb, ltb, leb, length, get_or, drop, Result, Ok, Err}
 use Rattle.refusal.specs.Number.{number_of}
 use Rattle.refusal.specs.declared.Refusal.{Refusal}
 use Rattle.refusal.specs.declared.Refusal.TheVariants as R
+use Rattle.refusal.specs.declared.RefusedAt.{RefusedAt}
 use Rattle.common.specs.Lists.{member, all_below}
 use Rattle.shift.specs.Variant.{bad_amount}
 use Rattle.bytecode.specs.Instruction.{Inst}
 use Rattle.bytecode.specs.Parse.{Parsed, whole, refused, parse}
-use Rattle.accept.specs.declared.Checked.{Checked}
-use Rattle.accept.specs.declared.Checked.TheVariants as C
 
 -- accepted, or a refusal by its number with an offset from the program's start
 pub data Verdict : Type 0 where
@@ -16,9 +15,9 @@ pub data Verdict : Type 0 where
   refusal : ℕ → ℕ → Verdict
 
 -- what each case of the check's answer says
-abbrev pub verdict : Checked → Verdict
-verdict C.Accepted = accepted
-verdict (C.Refused r at) = refusal (number_of r) at
+abbrev pub verdict : Result Unit RefusedAt → Verdict
+verdict (Ok _) = accepted
+verdict (Err r) = refusal (number_of r.refusal) r.offset
 
 -- ---- what is wrong with a whole instruction
 

@@ -2,88 +2,75 @@
 ghost use Rattle.std.specs.Prelude.{◌≡◌, ◌+◌, ◌*◌, ◌≤◌, length};
 ghost use Rattle.common.specs.Lists.{member, all_below};
 ghost use Rattle.bytecode.specs.Layout.{words};
-ghost use Rattle.accept.specs.Check.{verdict, overlap};
-ghost use Rattle.accept.specs.Working.{judged_registers};
+ghost use Rattle.accept.specs.Check.{overlap};
+ghost use Rattle.accept.specs.Working.{judged_registers, judging, numbers};
 
-use crate::Checked;
-use bytecode::layout::{Places, word};
-use common::wide;
+use bytecode::layout::Places;
 use refusal::Refusal;
 
-// Whether x is among n registers from a place of the bytes on.
-fn has(code: &[u8], at: usize, n: usize, x: u32) -> bool
-    requires { at + 4 * n ≤ length code.now }
-    ensures { result ≡ member x (words code.now at n) }
+// The registers that stand one after the other from a place of the bytes on, four bytes each.
+fn registers(code: &[u8], at: usize, count: usize) -> &[[u8; 4]]
+    requires { at + 4 * count ≤ length code.now }
+    ensures { numbers result.now ≡ words code.now at count }
 {
-    let mut k: usize = 0;
-    while k < n {
-        if word(code, at + 4 * k) == x {
-            return true;
-        }
-        k += 1;
-    }
-    false
+    code[at..at + 4 * count].as_chunks::<4>().0
 }
 
-// Whether n registers from a place on are all below rows.
-fn below(code: &[u8], at: usize, n: usize, rows: usize) -> bool
-    requires { at + 4 * n ≤ length code.now }
-    ensures { result ≡ all_below rows (words code.now at n) }
+// Whether x is among them.
+fn has(registers: &[[u8; 4]], x: u32) -> bool
+    ensures { result ≡ member x (numbers registers.now) }
 {
-    let mut k: usize = 0;
-    while k < n {
-        if rows <= wide(word(code, at + 4 * k)) {
-            return false;
-        }
-        k += 1;
-    }
-    true
+    registers
+        .iter()
+        .any(|register| u32::from_le_bytes(*register) == x)
 }
 
-// Whether a destination is a source or a later destination: d destinations stand from `to` on, s sources from `from` on.
-// Both passes are left at the first equal pair.
-fn collides(code: &[u8], to: usize, d: usize, from: usize, s: usize) -> bool
-    requires { (to + 4 * d ≤ length code.now) × (from + 4 * s ≤ length code.now) }
-    ensures { result ≡ overlap (words code.now to d) (words code.now from s) }
+// Whether they are all below rows.
+fn below(registers: &[[u8; 4]], rows: usize) -> bool
+    ensures { result ≡ all_below rows (numbers registers.now) }
+{
+    registers
+        .iter()
+        .all(|register| (u32::from_le_bytes(*register) as usize) < rows)
+}
+
+// Whether a destination is a source or a later destination. Nested passes, left at the first equal pair: labelled loops over
+// destinations and sources are the form that is prescribed for this search (docs/DECISIONS.md).
+fn collides(dests: &[[u8; 4]], sources: &[[u8; 4]]) -> bool
+    ensures { result ≡ overlap (numbers dests.now) (numbers sources.now) }
 {
     let mut hit = false;
-    let mut j: usize = 0;
-    'dests: while j < d {
-        let x = word(code, to + 4 * j);
-        let mut k: usize = 0;
-        while k < s {
-            if word(code, from + 4 * k) == x {
+    let mut left = dests;
+    'dests: while let [first, rest @ ..] = left {
+        let dest = u32::from_le_bytes(*first);
+        for source in sources {
+            if u32::from_le_bytes(*source) == dest {
                 hit = true;
                 break 'dests;
             }
-            k += 1;
         }
-        j += 1;
-        if has(code, to + 4 * j, d - j, x) {
+        if has(rest, dest) {
             hit = true;
             break 'dests;
         }
+        left = rest;
     }
     hit
 }
 
 // 9, then 10.
-pub(crate) fn judge_registers(code: &[u8], places: Places, rows: usize) -> Checked
+#[tactic(auto, unfolding(crate::specs::Working::judged_registers))]
+pub(crate) fn judge_registers(code: &[u8], places: Places, rows: usize) -> Result<(), Refusal>
     requires { (places.to + 4 * places.dests ≤ length code.now) × (places.from + 4 * places.sources ≤ length code.now) }
-    ensures { verdict result ≡ judged_registers rows (words code.now places.to places.dests) (words code.now places.from places.sources) }
+    ensures { judging result ≡ judged_registers rows (words code.now places.to places.dests) (words code.now places.from places.sources) }
 {
-    let to = places.to;
-    let d = places.dests;
-    let from = places.from;
-    let s = places.sources;
-    if below(code, to, d, rows) {
-        if below(code, from, s, rows) {
-            if collides(code, to, d, from, s) {
-                return Checked::Refused(Refusal::Overlap, 0);
-            }
-            return Checked::Accepted;
-        }
-        return Checked::Refused(Refusal::BadRegister, 0);
+    let dests = registers(code, places.to, places.dests);
+    let sources = registers(code, places.from, places.sources);
+    if !(below(dests, rows) && below(sources, rows)) {
+        return Err(Refusal::BadRegister);
     }
-    Checked::Refused(Refusal::BadRegister, 0)
+    if collides(dests, sources) {
+        return Err(Refusal::Overlap);
+    }
+    Ok(())
 }

@@ -1,19 +1,11 @@
--- `accept::registers::below` meets its contract: what is left of the fields decides. Assumes nothing.
-use Rattle.std.proofs.Common.{◌∙◌}
-use borrow.Author.Tests.{lt-ltb, le-ltb}
-use Rattle.accept.proofs.Left.{test_first, test_turn, test_more, test_last}
+-- `accept::registers::below` meets its contract: each register is below rows. Assumes nothing.
+use Rattle.std.proofs.Common.{◌∙◌, rules, tests}
+use Rattle.std.proofs.lemmas.Iterator.{YieldsList-from_slice}
+use Rattle.std.proofs.lemmas.Iterator.Search.{all_from_yields_List}
+use Rattle.accept.proofs.Fours.{all_below_lem}
 use Rattle.accept.proofs.registers.below.Goals as goal
 
-pub loop-k-init : goal.loop-k-init
-loop-k-init c = test_first _ _ _ _
-
-pub returns-then-rows-wide : goal.returns-then-rows-wide
-returns-then-rows-wide c =
-    rw (test_turn c.loop-k.invariant c.loop-k-test.true (c.wide.ensures ∙ c.word.ensures), le-ltb _ _ c.if-rows-wide.true)
-
-pub loop-k-preserved : goal.loop-k-preserved
-loop-k-preserved c =
-    test_more c.loop-k.invariant c.loop-k-test.true (c.wide.ensures ∙ c.word.ensures) (rw (lt-ltb _ _ c.if-rows-wide.false))
-
 pub returns : goal.returns
-returns c = rw (test_last c.loop-k.invariant c.loop-k-test.false)
+returns c =
+    all_from_yields_List _ _ _ _ c.all.ensures.ran (YieldsList-from_slice c.args.registers.now cc) (λ x b q k. search (rules, tests))
+    ∙ all_below_lem c.args.rows c.args.registers.now
