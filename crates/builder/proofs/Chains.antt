@@ -4,6 +4,7 @@ use mathlib.Core.Path.{◌≡◌, refl, sym, ap, ap₂, ◌∙◌}
 use mathlib.Core.List.{List, [], ◌∷◌, ◌++◌, map, append-nil}
 use native.Mathlib.Omega.{arith}
 use lib.ListN.{length, take, length-append}
+use Rattle.std.specs.Prelude.{Result}
 use Rattle.bytecode.specs.Instruction.{Inst}
 use Rattle.bytecode.specs.Encode.{encode}
 use Rattle.bytecode.specs.Program.{bytes_of, program_of}
@@ -11,7 +12,7 @@ use Rattle.bytecode.proofs.Encodings.{AllFormed, program_of_lem, bytes-append, f
 use Rattle.builder.specs.Call.{Call, laid}
 use Rattle.builder.specs.Emit.{done, said, fresh, Emits}
 use Rattle.builder.specs.declared.BytecodeBuilder.{BytecodeBuilder}
-use Rattle.builder.specs.declared.Emitted.{Emitted}
+use Rattle.builder.specs.declared.Unemitted.{Unemitted}
 use Rattle.builder.proofs.Calls.{Typed, call_formed}
 use Rattle.builder.proofs.RoundTrips.{emitted_laid, laid_front}
 
@@ -19,7 +20,7 @@ use Rattle.builder.proofs.RoundTrips.{emitted_laid, laid_front}
 pub data Emitting : List Call → BytecodeBuilder → List ℕ → Type 0 where
   begun : (s : List ℕ) → Emitting [] fresh s
   then : {cs : List Call} {b : BytecodeBuilder} {s : List ℕ} → Emitting cs b s
-      → (c : Call) (r : Emitted) (b' : BytecodeBuilder) (after : List ℕ) → Typed c → Emits c b s r after → said r ≡ done b'
+      → (c : Call) (r : Result BytecodeBuilder Unemitted) (b' : BytecodeBuilder) (after : List ℕ) → Typed c → Emits c b s r after → said r ≡ done b'
       → Emitting (cs ++ (c ∷ [])) b' after
 
 pub record Built (cs : List Call) (b : BytecodeBuilder) (s : List ℕ) : Type 0 where

@@ -9,6 +9,7 @@ use native.Mathlib.Omega.{arith}
 use borrow.Author.Tests.{eqb-true, eq-eqb, ltb-true, lt-ltb, not-true}
 use lib.Dec.{eqb, ltb}
 use lib.ListN.{length, get_or, drop}
+use Rattle.std.specs.Prelude.{Result}
 use Rattle.common.specs.Order.{Lowest}
 use Rattle.common.proofs.Rules.{Rule, rule, first_of, holds, nth_holds, each_back, first_exactly, given_positive}
 use Rattle.common.specs.Lists.{member, all_below}
@@ -20,7 +21,7 @@ use Rattle.builder.specs.Call.{Call, laid}
 use Rattle.builder.specs.Emit.{Emission, done, refused, said, no_room, advanced, bad_dimension, emission, stored, Emits}
 use Rattle.builder.specs.Faults.{EmitFault, bad_variant_argument, large_dimension, passes_buffer, passes_limit, length_over, count_over}
 use Rattle.builder.specs.declared.BytecodeBuilder.{BytecodeBuilder}
-use Rattle.builder.specs.declared.Emitted.{Emitted}
+use Rattle.builder.specs.declared.Unemitted.{Unemitted}
 use Rattle.builder.proofs.Room.{lacks}
 use Rattle.builder.proofs.RoundTrips.{apart}
 
@@ -93,7 +94,7 @@ module _ (c : Call) (b : BytecodeBuilder) (s : List ℕ) where
   refused_given ℕ.zero h = absurd (omega arith)
   refused_given (suc k) h = refl
 
-  module _ (r : Emitted) (after : List ℕ) (x : Emits c b s r after) (k : ℕ) (b' : BytecodeBuilder) where
+  module _ (r : Result BytecodeBuilder Unemitted) (after : List ℕ) (x : Emits c b s r after) (k : ℕ) (b' : BytecodeBuilder) where
     -- given exactly when: the lowest number of the table, with the state handed back
     pub emitter_exactly : (said r ≡ refused k b') ↔ ((b' ≡ b) × Lowest (EmitFault c b s) k)
     emitter_exactly = (

@@ -1,5 +1,4 @@
 pub mod Stores
-pub mod Dimensions
 pub mod Room
 pub mod Calls
 pub mod RoundTrips

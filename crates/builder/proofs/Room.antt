@@ -1,21 +1,21 @@
 -- What room means, and the answers of an emitter that found it or did not. Assumes nothing.
-use Prim.Native.Nat.{ℕ, min, ◌+◌, ◌≤◌, ◌<◌}
-use mathlib.Core.Path.{◌≡◌, refl, sym, ◌∙◌}
+use Prim.Native.Nat.{ℕ, min, ◌+◌, ◌-◌, ◌≤◌, ◌<◌}
+use mathlib.Core.Path.{◌≡◌, refl, sym, ap, ◌∙◌}
 use mathlib.Core.List.{List}
-use mathlib.Core.Bool.{Bool, true, false, cond, ◌||◌, or-false}
+use mathlib.Core.Bool.{Bool, true, false, cond, ◌||◌}
 use native.Mathlib.Omega.{arith}
-use borrow.Author.Tests.{ltb-false, le-ltb, leb-true, leb-false}
+use borrow.Author.Tests.{ltb-false, leb-true, leb-false}
 use lib.Dec.{ltb, leb}
 use lib.ListN.{length}
-use lib.Seq.{sets}
-use Rattle.refusal.specs.declared.Refusal.{Refusal}
+use borrow.Rule.Slice.PartMut.{put_mid}
+use Rattle.std.specs.Prelude.{Result, Ok, Err}
 use Rattle.refusal.specs.declared.Refusal.TheVariants as R
 use Rattle.common.proofs.Bools.{neither}
 use Rattle.builder.specs.Emit.{no_room, advanced, emission, EmitsBytes}
 use Rattle.builder.specs.Working.{reserved}
 use Rattle.builder.specs.declared.BytecodeBuilder.{BytecodeBuilder}
-use Rattle.builder.specs.declared.Emitted.{Emitted}
-use Rattle.builder.specs.declared.Emitted.TheVariants as E
+use Rattle.builder.specs.declared.Unemitted.{Unemitted}
+use Rattle.builder.proofs.Stores.{overwritten}
 
 -- ---- room
 
@@ -39,32 +39,23 @@ lacks b m n h = go (no_room b m n) refl
     go true e = refl
     go false e = absurd (h (roomy b m n e))
 
--- what is left to judge, in a sound state with room in the buffer
-pub by_limit : (b : BytecodeBuilder) (m n : ℕ) → b.count ≤ b.len → b.len + n ≤ m → no_room b m n ≡ ltb 65536 (b.len + n)
-unfolding no_room
-by_limit b m n h k =
-    rw (le-ltb m (b.len + n) k, le-ltb m b.len (omega arith), le-ltb b.len b.count h, or-false, or-false)
-
 -- a reservation that was made, and one that was not
-reserved_by : (t : Bool) (b : BytecodeBuilder) (n : ℕ) (x : BytecodeBuilder) → cond t (E.Refused R.NoRoom b) (E.Done (advanced b n)) ≡ E.Done x → t ≡ false
-reserved_by true b n x e = let z : ◌≡◌ {A = ℕ} 0 1 = cc in absurd (omega arith)
-reserved_by false b n x e = refl
+granted_by : (t : Bool) (b : BytecodeBuilder) (n : ℕ) (x : BytecodeBuilder) → ◌≡◌ {A = Result BytecodeBuilder Unemitted} (Ok x) (cond t (Err (record { refusal = R.NoRoom; builder = b })) (Ok (advanced b n))) → (t ≡ false) × (x ≡ advanced b n)
+granted_by true b n x e = absurd (cc)
+granted_by false b n x e = (refl, cc)
 
-refused_by : (t : Bool) (b : BytecodeBuilder) (n : ℕ) (r : Refusal) (x : BytecodeBuilder) → cond t (E.Refused R.NoRoom b) (E.Done (advanced b n)) ≡ E.Refused r x → t ≡ true
-refused_by true b n r x e = refl
-refused_by false b n r x e = let z : ◌≡◌ {A = ℕ} 0 1 = cc in absurd (omega arith)
+refused_by : (t : Bool) (b : BytecodeBuilder) (n : ℕ) (x : Unemitted) → ◌≡◌ {A = Result BytecodeBuilder Unemitted} (Err x) (cond t (Err (record { refusal = R.NoRoom; builder = b })) (Ok (advanced b n))) → (t ≡ true) × (x ≡ record { refusal = R.NoRoom; builder = b })
+refused_by true b n x e = (refl, cc)
+refused_by false b n x e = absurd (cc)
 
-module _ (b : BytecodeBuilder) (m n : ℕ) {r : Emitted} {x : BytecodeBuilder} (a : r ≡ reserved b m n) where
-  has_room : r ≡ E.Done x → no_room b m n ≡ false
+module _ (b : BytecodeBuilder) (m n : ℕ) {r : Result BytecodeBuilder Unemitted} (a : r ≡ reserved b m n) where
+  has_room : {x : BytecodeBuilder} → r ≡ Ok x → (no_room b m n ≡ false) × (x ≡ advanced b n)
   unfolding reserved
-  has_room d = reserved_by (no_room b m n) b n x (sym a ∙ d)
+  has_room {x} d = granted_by (no_room b m n) b n x (sym d ∙ a)
 
-  no_room_lem : {q : Refusal} → r ≡ E.Refused q x → no_room b m n ≡ true
+  has_none : {x : Unemitted} → r ≡ Err x → (no_room b m n ≡ true) × (x ≡ record { refusal = R.NoRoom; builder = b })
   unfolding reserved
-  no_room_lem {q} d = refused_by (no_room b m n) b n q x (sym a ∙ d)
-
-  pub granted : r ≡ E.Done x → Roomy b m n
-  granted d = roomy b m n (has_room d)
+  has_none {x} d = refused_by (no_room b m n) b n x (sym d ∙ a)
 
 -- ---- a length that is cut off where nothing fits any more
 
@@ -83,26 +74,33 @@ capped b m n = go (leb n 65537) refl
 
 -- ---- the answers
 
-module _ (bs : List ℕ) (b : BytecodeBuilder) (s : List ℕ) (n : ℕ) {r : Emitted} {x : BytecodeBuilder} (len : length bs ≡ n) (a : r ≡ reserved b (length s) n) where
-  pub emitted : {after : List ℕ} → r ≡ E.Done x → after ≡ sets s b.len bs → EmitsBytes false false bs b s r after
-  unfolding emission reserved
-  emitted d e = let f = has_room b (length s) n a d in record { answer = rw (len, f, a, f); bytes = rw (len, f) e }
+module _ (bs : List ℕ) (b : BytecodeBuilder) (s : List ℕ) (n : ℕ) (len : length bs ≡ n) {r : Result BytecodeBuilder Unemitted} (a : r ≡ reserved b (length s) n) where
+  pub emitted : {x : BytecodeBuilder} {part : List ℕ} → r ≡ Ok x → part ≡ bs → EmitsBytes false false bs b s (Ok x) (put_mid b.len (x.len - b.len) s part)
+  unfolding emission
+  emitted {x} d e =
+      let f = has_room b (length s) n a d in
+      let room = roomy b (length s) n f.0 in
+      let grown = ap (λ (y : BytecodeBuilder). y.len) f.1 in
+      record {
+        answer = rw (len, f.0, f.1);
+        bytes = rw (len, f.0) (overwritten s bs b.len (x.len - b.len) (omega (arith, room)) e (omega arith));
+      }
 
-  pub refused_room : {q : Refusal} → r ≡ E.Refused q x → EmitsBytes false false bs b s r s
-  unfolding emission reserved
-  refused_room d = let f = no_room_lem b (length s) n a d in record { answer = rw (len, f, a, f); bytes = rw (len, f) }
+  pub refused_room : {x : Unemitted} {q : Result BytecodeBuilder Unemitted} → r ≡ Err x → q ≡ Err x → EmitsBytes false false bs b s q s
+  unfolding emission
+  refused_room d e = let f = has_none b (length s) n a d in record { answer = rw (e, len, f.0, f.1); bytes = rw (len, f.0) }
 
 -- the tests before it did not hold
-pub judged : (variant dimension : Bool) (bs : List ℕ) (b : BytecodeBuilder) (s : List ℕ) (r : Emitted) (after : List ℕ)
+pub judged : (variant dimension : Bool) (bs : List ℕ) (b : BytecodeBuilder) (s : List ℕ) (r : Result BytecodeBuilder Unemitted) (after : List ℕ)
     → variant ≡ false → dimension ≡ false → EmitsBytes false false bs b s r after → EmitsBytes variant dimension bs b s r after
 judged variant dimension bs b s r after e f x = rw (e, f) x
 
-pub refused_variant : (variant dimension : Bool) (bs : List ℕ) (b : BytecodeBuilder) (s : List ℕ)
-    → variant ≡ true → EmitsBytes variant dimension bs b s (E.Refused R.BadShift b) s
+pub refused_variant : (variant dimension : Bool) (bs : List ℕ) (b : BytecodeBuilder) (s : List ℕ) {r : Result BytecodeBuilder Unemitted}
+    → r ≡ Err (record { refusal = R.BadShift; builder = b }) → variant ≡ true → EmitsBytes variant dimension bs b s r s
 unfolding emission
-refused_variant variant dimension bs b s e = record { answer = rw e; bytes = rw e }
+refused_variant variant dimension bs b s a e = record { answer = rw (a, e); bytes = rw e }
 
-pub refused_dimension : (dimension : Bool) (bs : List ℕ) (b : BytecodeBuilder) (s : List ℕ)
-    → dimension ≡ true → EmitsBytes false dimension bs b s (E.Refused R.BadHint b) s
+pub refused_dimension : (dimension : Bool) (bs : List ℕ) (b : BytecodeBuilder) (s : List ℕ) {r : Result BytecodeBuilder Unemitted}
+    → r ≡ Err (record { refusal = R.BadHint; builder = b }) → dimension ≡ true → EmitsBytes false dimension bs b s r s
 unfolding emission
-refused_dimension dimension bs b s e = record { answer = rw e; bytes = rw e }
+refused_dimension dimension bs b s a e = record { answer = rw (a, e); bytes = rw e }

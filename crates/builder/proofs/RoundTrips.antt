@@ -7,6 +7,8 @@ use native.Mathlib.Omega.{arith}
 use borrow.Author.Tests.{ne_eqb}
 use lib.ListN.{length, take, drop, length-append}
 use lib.Seq.{sets, sets-eq, drop_at, take_at, length-take-le}
+use Rattle.std.specs.Prelude.{Result, Ok}
+use Rattle.refusal.specs.declared.RefusedAt.{RefusedAt}
 use Rattle.common.specs.Lists.{all_below}
 use Rattle.common.proofs.Below.{below_tail}
 use Rattle.bytecode.specs.Layout.{AreBytes}
@@ -16,7 +18,6 @@ use Rattle.bytecode.specs.Parse.{whole, told, parse}
 use Rattle.bytecode.specs.declared.instruction.Instruction.{Instruction}
 use Rattle.bytecode.specs.declared.instruction.Instruction.TheVariants as I
 use Rattle.bytecode.specs.declared.decoder.Decoded.{Decoded}
-use Rattle.bytecode.specs.declared.decoder.Decoded.TheVariants as D
 use Rattle.bytecode.proofs.Tables.{settle}
 use Rattle.bytecode.proofs.Parses.{whole_read}
 use Rattle.bytecode.proofs.RoundTrip.{round_trip}
@@ -26,7 +27,7 @@ use Rattle.bytecode.proofs.Cases.{told_whole}
 use Rattle.builder.specs.Call.{Call, laid, case_of, call_of}
 use Rattle.builder.specs.Emit.{Emission, done, refused, said, no_room, advanced, bad_dimension, emission, stored, EmitsInst, Emits}
 use Rattle.builder.specs.declared.BytecodeBuilder.{BytecodeBuilder}
-use Rattle.builder.specs.declared.Emitted.{Emitted}
+use Rattle.builder.specs.declared.Unemitted.{Unemitted}
 use Rattle.builder.proofs.Room.{Roomy, roomy}
 use Rattle.builder.proofs.Calls.{Typed, call_formed, case_call}
 
@@ -42,7 +43,7 @@ pub record Laid (i : Inst) (b : BytecodeBuilder) (s : List ℕ) (b' : BytecodeBu
 pub apart : (r : ℕ) (b b' : BytecodeBuilder) → refused r b ≡ done b' → ⊥
 apart r b b' e = let z : ◌≡◌ {A = ℕ} 0 1 = cc in omega arith
 
-pub emitted_laid : (i : Inst) (b : BytecodeBuilder) (s : List ℕ) (r : Emitted) (after : List ℕ) (b' : BytecodeBuilder) → EmitsInst i b s r after → said r ≡ done b' → Laid i b s b' after
+pub emitted_laid : (i : Inst) (b : BytecodeBuilder) (s : List ℕ) (r : Result BytecodeBuilder Unemitted) (after : List ℕ) (b' : BytecodeBuilder) → EmitsInst i b s r after → said r ≡ done b' → Laid i b s b' after
 unfolding emission
 emitted_laid i b s r after b' x e = go (shift_bad_variant i) (bad_dimension i) (no_room b (length s) (length (encode i))) refl refl refl (sym x.answer ∙ e) x.bytes
   where
@@ -82,18 +83,18 @@ module _ (i : Inst) (b : BytecodeBuilder) (s : List ℕ) (b' : BytecodeBuilder) 
 -- ---- decoding what was emitted
 
 -- the decoder's answer at the old length: the emitter's case with its arguments and, as a length, what the state's length has grown by
-pub record Decodes (c : Call) (b b' : BytecodeBuilder) (part : List ℕ) (d : Decoded) : Type 0 where
-  pub case : d ≡ D.Instruction (case_of c) (b'.len - b.len)
+pub record Decodes (c : Call) (b b' : BytecodeBuilder) (part : List ℕ) (d : Result Decoded RefusedAt) : Type 0 where
+  pub case : d ≡ Ok (record { instruction = case_of c; length = b'.len - b.len })
   pub instruction : told part d ≡ whole (laid c) (b'.len - b.len)
 
-pub emitted_decoded : (c : Call) → Typed c → (b b' : BytecodeBuilder) (s after : List ℕ) (r : Emitted) → Emits c b s r after → said r ≡ done b'
-    → (d : Decoded) → told (drop b.len after) d ≡ parse (drop b.len after) → Decodes c b b' (drop b.len after) d
+pub emitted_decoded : (c : Call) → Typed c → (b b' : BytecodeBuilder) (s after : List ℕ) (r : Result BytecodeBuilder Unemitted) → Emits c b s r after → said r ≡ done b'
+    → (d : Result Decoded RefusedAt) → told (drop b.len after) d ≡ parse (drop b.len after) → Decodes c b b' (drop b.len after) d
 emitted_decoded c t b b' s after r x e d p =
     let l = emitted_laid (laid c) b s r after b' x e in
     let f = call_formed c t l.variant l.dimension (omega (arith, l.room)) in
     let n : length (encode (laid c)) ≡ b'.len - b.len = omega (arith, ap (λ (x : BytecodeBuilder). x.len) l.state) in
     let q = p ∙ ap parse (laid_rest (laid c) b s b' after l) ∙ round_trip (laid c) (behind (laid c) b s b' after l) f ∙ ap (whole (laid c)) n in
-    record { case = told_whole (drop b.len after) d (laid c) (b'.len - b.len) q ∙ ap (λ (j : Instruction). D.Instruction j (b'.len - b.len)) (case_call c); instruction = q }
+    record { case = told_whole (drop b.len after) d (laid c) (b'.len - b.len) q ∙ ap (λ (j : Instruction). Ok (record { instruction = j; length = b'.len - b.len })) (case_call c); instruction = q }
 
 -- ---- emitting what was decoded
 
@@ -131,7 +132,7 @@ formed_dimension i f =
     dims [] h e = absurd (omega arith)
     dims (x ∷ ns) h e = below_tail (2 ^ 32) x ns e
 
-module _ (s : List ℕ) (ok : AreBytes s) (d : Decoded) (p : told s d ≡ parse s) (j : Instruction) (n : ℕ) (q : d ≡ D.Instruction j n) where
+module _ (s : List ℕ) (ok : AreBytes s) (d : Result Decoded RefusedAt) (p : told s d ≡ parse s) (j : Instruction) (n : ℕ) (q : d ≡ Ok (record { instruction = j; length = n })) where
   parsed : parse s ≡ whole (laid (call_of s j)) n
   unfolding told
   parsed = sym p ∙ ap (told s) q ∙ ap (λ (i : Inst). whole i n) (sym (laid_inst s j))
@@ -148,7 +149,7 @@ module _ (s : List ℕ) (ok : AreBytes s) (d : Decoded) (p : told s d ≡ parse 
   size : length (encode i) ≡ n
   size = ap length (bytes_back s ok i n parsed) ∙ length-take-le n s (whole_within s i n parsed).1
 
-  module _ (b : BytecodeBuilder) (t : List ℕ) (r : Emitted) (after : List ℕ) (x : Emits (call_of s j) b t r after) where
+  module _ (b : BytecodeBuilder) (t : List ℕ) (r : Result BytecodeBuilder Unemitted) (after : List ℕ) (x : Emits (call_of s j) b t r after) where
     -- its emitter judges the room alone
     pub room_alone : said r ≡ cond (no_room b (length t) n) (refused 11 b) (done (advanced b n))
     unfolding emission

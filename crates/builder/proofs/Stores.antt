@@ -1,48 +1,67 @@
 -- Laws of runs of stores. Assumes nothing.
-use Prim.Native.Nat.{ℕ, suc, ◌+◌, ◌*◌, ◌≤◌, ◌<◌}
-use mathlib.Core.Path.{◌≡◌, ◌∙◌}
-use mathlib.Core.List.{List, [], ◌∷◌, ◌++◌}
+use Prim.Native.Nat.{ℕ, suc, ◌+◌, ◌*◌, ◌/◌, ◌≤◌, ◌<◌}
+use mathlib.Core.Path.{◌≡◌, ap, ◌∙◌}
+use mathlib.Core.List.{List, [], ◌∷◌, ◌++◌, map, map-id, append_assoc, append-nil}
+use mathlib.Core.Bool.{true}
 use native.Mathlib.Omega.{arith}
 use native.Mathlib.Nat.{add-zero}
 use native.Mathlib.Numerals.{add-one}
-use lib.ListN.{length, get_or, take, set}
-use lib.Seq.{sets, take-suc, take_all, length-take-le}
+use lib.ListN.{length, get_or, take, set, drop_of_length-le}
+use lib.Seq.{sets, sets-eq, drop-drop, take-suc, take_all, length-sets, length-take-le}
+use borrow.Rule.Slice.PartMut.{put_mid}
+use Rattle.std.specs.Int.{to_le_bytes, w32}
+use Rattle.common.specs.Lists.{all_below}
+use Rattle.common.proofs.Below.{below_all}
 use Rattle.bytecode.specs.Layout.{le, les}
 use Rattle.bytecode.proofs.Words.{length-les, les_app}
 
 -- a run of stores and one right after it are one run
-pub sets_app : (a b l : List ℕ) (i j : ℕ) → j ≡ i + length a → sets (sets l i a) j b ≡ sets l i (a ++ b)
+sets_app : (a b l : List ℕ) (i j : ℕ) → j ≡ i + length a → sets (sets l i a) j b ≡ sets l i (a ++ b)
 sets_app [] b l i j e = rw (e, add-zero)
 sets_app (x ∷ a) b l i j e = sets_app a b (set l i x) (suc i) j (omega arith)
 
--- one more store, or run of stores, after a run: for a chain of calls that each store what comes next
-pub run : {l l' : List ℕ} (s a b : List ℕ) (at j : ℕ) → l ≡ sets s at a → l' ≡ sets l j b → j ≡ at + length a → l' ≡ sets s at (a ++ b)
-run s a b at j e f g = f ∙ rw e (sets_app a b s at j g)
+-- bytes that were written over a part are a run of stores
+pub overwritten : (s w : List ℕ) (at k : ℕ) {w' : List ℕ} → at + length w ≤ length s → w' ≡ w → k ≡ length w → put_mid at k s w' ≡ sets s at w
+overwritten s w at k {w'} h e n = rw (e, n, sets-eq w s at h, drop-drop, append_assoc)
 
--- an opcode, a field, a count and as many words
-pub run_counted : {l₁ l₂ l₃ l₄ : List ℕ} (s ws : List ℕ) (op x at : ℕ)
-    → l₁ ≡ sets s at (op ∷ []) → l₂ ≡ sets l₁ (at + 1) (le 4 x) → l₃ ≡ sets l₂ (at + 5) (le 4 (length ws)) → l₄ ≡ sets l₃ (at + 9) (les ws)
-    → l₄ ≡ sets s at (op ∷ (le 4 x ++ (le 4 (length ws) ++ les ws)))
-run_counted s ws op x at e₁ e₂ e₃ e₄ =
-    run s (op ∷ (le 4 x ++ le 4 (length ws))) (les ws) at (at + 9)
-    (run s (op ∷ le 4 x) (le 4 (length ws)) at (at + 5) (run s (op ∷ []) (le 4 x) at (at + 1) e₁ e₂ (omega arith)) e₃ (omega arith)) e₄ (omega arith)
+-- the four bytes of a field
+low_first : (x : ℕ) → to_le_bytes w32 x ≡ le 4 x
+low_first x =
+    let p : x / 65536 ≡ x / 256 / 256 = omega arith in
+    let q : x / 16777216 ≡ x / 256 / 256 / 256 = omega arith in
+    rw (p, q)
 
--- the loop that stores u32s in a row, before word i: those before it are one run of stores
-pub record Putting (d ws : List ℕ) (at : ℕ) (buf : List ℕ) (i : ℕ) : Type 0 where
-  pub within : i ≤ length ws
-  pub stored : buf ≡ sets d at (les (take i ws))
+-- the loop that stores numbers in a row, before the i-th: those before it are one run of stores
+pub record Putting (d ws : List ℕ) (buf : List ℕ) (i : ℕ) : Type 0 where
+  pub stored : buf ≡ sets d 0 (les (take i ws))
   pub kept : length buf ≡ length d
 
-module _ {d ws : List ℕ} {at : ℕ} {buf : List ℕ} {i : ℕ} (p : Putting d ws at buf i) where
-  pub put_more : {buf' : List ℕ} → i < length ws → buf' ≡ sets buf (at + 4 * i) (le 4 (get_or ws i 0)) → length buf' ≡ length buf → Putting d ws at buf' (i + 1)
-  put_more h e k = record {
-    within = omega arith;
-    stored =
-        e ∙ rw p.stored
-        (sets_app (les (take i ws)) (le 4 (get_or ws i 0)) d at (at + 4 * i) (omega (arith, length-les (take i ws), length-take-le i ws (omega arith)))
-        ∙ rw (add-one, take-suc ws i 0, les_app));
-    kept = k ∙ p.kept;
-  }
+module _ {d ws : List ℕ} {buf : List ℕ} {i : ℕ} (room : length d ≡ 4 * length ws) (p : Putting d ws buf i) where
+  pub put_more : (k x : ℕ) {w' : List ℕ} → i < length ws → x ≡ get_or ws i x → w' ≡ to_le_bytes w32 x → k ≡ 4 → Putting d ws (put_mid (4 * i) k buf w') (i + 1)
+  put_more k x h v e f =
+      let g = overwritten buf (le 4 x) (4 * i) k (omega (arith, p.kept)) (e ∙ low_first x) f in
+      record {
+        stored =
+            g
+            ∙ rw p.stored
+            (sets_app (les (take i ws)) (le 4 x) d 0 (4 * i) (omega (arith, length-les (take i ws), length-take-le i ws (omega arith)))
+            ∙ rw (add-one, take-suc ws i x, ← v, les_app));
+        kept = ap length g ∙ length-sets buf (4 * i) (le 4 x) ∙ p.kept;
+      }
 
-  pub put_done : length ws ≤ i → buf ≡ sets d at (les ws)
-  put_done h = p.stored ∙ rw (take_all i ws h)
+  pub put_done : length ws ≤ i → buf ≡ les ws
+  put_done h =
+      let all : length d ≤ 0 + length (les ws) = omega (arith, length-les ws) in
+      p.stored
+      ∙ rw (take_all i ws h, sets-eq (les ws) d 0 (omega (arith, length-les ws)), drop_of_length-le d all) (append-nil (les ws))
+
+-- a byte, and what was written over all that was after it
+pub headed : (s w : List ℕ) (x k : ℕ) {w' : List ℕ} → length s ≡ 1 + length w → w' ≡ w → k ≡ length w → put_mid 1 k (set s 0 x) w' ≡ x ∷ w
+headed [] w x k h e n = absurd (omega arith)
+headed (y ∷ s) w x k h e n =
+    let all : length s ≤ length w = omega arith in
+    rw (e, n, drop_of_length-le s all) (ap (λ (r : List ℕ). x ∷ r) (append-nil w))
+
+-- u32s fit a field each
+pub fields_fit : (xs : List ℕ) → ((i : ℕ) → get_or xs i 0 < 4294967296) → all_below 4294967296 (map (λ x. x) xs) ≡ true
+fields_fit xs h = rw (map-id xs) (below_all 4294967296 xs (λ i l. h i))

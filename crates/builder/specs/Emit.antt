@@ -1,5 +1,5 @@
 -- Document 01, "Numbered refusals" and "Instruction layout": what an emitter answers, and what the buffer holds afterwards. Assumes nothing.
-use Rattle.std.specs.Prelude.{ℕ, ◌+◌, ◌≡◌, List, Bool, cond, not, ◌&&◌, ◌||◌, eqb, ltb, length, drop}
+use Rattle.std.specs.Prelude.{ℕ, ◌+◌, ◌≡◌, List, Bool, Result, Ok, Err, cond, not, ◌&&◌, ◌||◌, eqb, ltb, length, drop}
 use Rattle.std.proofs.lemmas.List.Edits.{sets}
 use Rattle.refusal.specs.Number.{number_of}
 use Rattle.refusal.specs.declared.Refusal.{Refusal}
@@ -9,8 +9,7 @@ use Rattle.bytecode.specs.Instruction.{Inst, shift_bad_variant}
 use Rattle.bytecode.specs.Encode.{encode}
 use Rattle.builder.specs.Call.{Call, laid}
 use Rattle.builder.specs.declared.BytecodeBuilder.{BytecodeBuilder}
-use Rattle.builder.specs.declared.Emitted.{Emitted}
-use Rattle.builder.specs.declared.Emitted.TheVariants as E
+use Rattle.builder.specs.declared.Unemitted.{Unemitted}
 
 -- the state after the instruction, or a refusal by its number with the state that is handed back
 pub data Emission : Type 0 where
@@ -18,9 +17,9 @@ pub data Emission : Type 0 where
   refused : ℕ → BytecodeBuilder → Emission
 
 -- what each case of an emitter's answer says
-abbrev pub said : Emitted → Emission
-said (E.Done b) = done b
-said (E.Refused r b) = refused (number_of r) b
+abbrev pub said : Result BytecodeBuilder Unemitted → Emission
+said (Ok b) = done b
+said (Err e) = refused (number_of e.refusal) e.builder
 
 -- a fresh builder
 abbrev pub fresh : BytecodeBuilder
@@ -56,13 +55,13 @@ stored (done b') bs b s = sets s b.len bs
 stored (refused r b') bs b s = s
 
 -- what emitting the bytes `bs` to a buffer `s` answers and leaves in it, given what is wrong with the instruction
-pub record EmitsBytes (variant dimension : Bool) (bs : List ℕ) (b : BytecodeBuilder) (s : List ℕ) (r : Emitted) (after : List ℕ) : Type 0 where
+pub record EmitsBytes (variant dimension : Bool) (bs : List ℕ) (b : BytecodeBuilder) (s : List ℕ) (r : Result BytecodeBuilder Unemitted) (after : List ℕ) : Type 0 where
   pub answer : said r ≡ emission variant dimension bs b s
   pub bytes : after ≡ stored (emission variant dimension bs b s) bs b s
 
 -- the same of an instruction, and of a call
-abbrev pub EmitsInst : Inst → BytecodeBuilder → List ℕ → Emitted → List ℕ → Type 0
+abbrev pub EmitsInst : Inst → BytecodeBuilder → List ℕ → Result BytecodeBuilder Unemitted → List ℕ → Type 0
 EmitsInst i b s r after = EmitsBytes (shift_bad_variant i) (bad_dimension i) (encode i) b s r after
 
-abbrev pub Emits : Call → BytecodeBuilder → List ℕ → Emitted → List ℕ → Type 0
+abbrev pub Emits : Call → BytecodeBuilder → List ℕ → Result BytecodeBuilder Unemitted → List ℕ → Type 0
 Emits c b s r after = EmitsInst (laid c) b s r after
