@@ -1,28 +1,29 @@
 -- Unpacking gives back what was packed: each field of a failing report, reports of either kind, a joined report with its side, a refusal
 -- with its offset, and a pool. Assumes nothing.
-use mathlib.Core.Path.{◌≡◌, refl}
+use mathlib.Core.Path.{◌≡◌, refl, ap, ◌∙◌}
 use Prim.Native.Nat.{ℕ, ◌+◌, ◌*◌, ◌^◌, ◌<◌}
 use native.Mathlib.Omega.{arith}
-use mathlib.Core.Bool.{Bool, true, false, cond}
+use mathlib.Core.Bool.{Bool, true, false}
 use mathlib.Core.List.{List}
-use lib.Dec.{eqb, lit<}
+use lib.Dec.{lit<}
 use borrow.Author.Tests.{eq-eqb, ne_eqb}
 use Rattle.refusal.specs.Number.{number_of}
 use Rattle.refusal.specs.declared.Refusal.{Refusal}
 use Rattle.refusal.proofs.Numbers.{number_range}
 use Rattle.report.specs.Position.{local, batch}
+use Rattle.report.specs.Mapped.{mapped}
 use Rattle.report.specs.Told.{side_number}
+use Rattle.report.specs.declared.LocalPosition.{LocalPosition}
+use Rattle.report.specs.declared.BatchPosition.{BatchPosition}
+use Rattle.report.specs.declared.Report.{Report}
+use Rattle.report.specs.declared.Report.TheVariants.{Clean, Failing}
 use Rattle.report.specs.declared.Side.{Side}
 use Rattle.report.specs.declared.Side.TheVariants.{Neither, Left, Right}
-use Rattle.report.specs.declared.StripeReport.{StripeReport}
-use Rattle.report.specs.declared.StripeReport.TheVariants as S
-use Rattle.report.specs.declared.BatchReport.{BatchReport}
-use Rattle.report.specs.declared.BatchReport.TheVariants as B
 use Rattle.scratch.specs.Accept.{accepted}
 use Rattle.scratch.specs.Answer.{Told, answer_of}
 use Rattle.scratch.specs.declared.Policy.{Policy}
 use Rattle.scratch.proofs.Promises.{length_fits, peak_fits}
-use Rattle.gussetglen.specs.Packing.{packed_refusal, packed_failing, packed_stripe, packed_batch, packed_pool, number_in, offset_in, failing_in, position_in, total_in, kept_in, side_in, length_in, peak_in, stripe_in, batch_in, Fields, StripeFits, BatchFits}
+use Rattle.gussetglen.specs.Packing.{packed_refusal, packed_failing, packed_report, packed_stripe, packed_batch, packed_pool, number_in, offset_in, failing_in, position_in, total_in, kept_in, side_in, length_in, peak_in, report_in, stripe_in, batch_in, Fields, ReportFits, StripeFits, BatchFits}
 
 -- ---- the fields of a failing report, with any side
 
@@ -45,29 +46,35 @@ module _ (p t k side word : ℕ) (h : Fields p t k) (e : word ≡ packed_failing
   pub side_back : side < 4 → side_in word ≡ side
   side_back l = omega arith
 
-  -- a report as a host reads it: clean where bit 8 is clear, else the three fields
-  read_back : {R : Type 0} (clean : R) (failing : ℕ → ℕ → ℕ → R)
-      → cond (eqb (failing_in word) 0) clean (failing (position_in word) (total_in word) (kept_in word)) ≡ failing p t k
-  read_back clean failing = rw (ne_eqb (failing_in word) 0 (λ z. omega (arith, failing_back)), position_back, total_back, kept_back)
+  read_back : report_in word ≡ Failing p t k
+  read_back = rw (ne_eqb (failing_in word) 0 (λ z. omega (arith, failing_back)), position_back, total_back, kept_back)
 
 -- ---- whole answers
 
-pub stripe_back : (r : StripeReport) → StripeFits r → stripe_in (packed_stripe r) ≡ r
-stripe_back S.Clean h = refl
-stripe_back (S.Failing p t k) h =
-    read_back p.0 t k 0 (packed_failing p.0 t k) h (omega arith) S.Clean (λ q. S.Failing (local q))
+-- a report, its position a bare number, alone or with a side beside it
+report_back : (r : Report ℕ) (side word : ℕ) → ReportFits r → word ≡ packed_report r + 2 ^ 46 * side → report_in word ≡ r
+report_back Clean side word h e = rw (eq-eqb (failing_in word) 0 (omega arith))
+report_back (Failing p t k) side word h e = read_back p t k side word h e
+
+-- a position as a number and back
+back_and_there : {P : Type 0} (f : ℕ → P) (g : P → ℕ) → ((p : P) → f (g p) ≡ p) → (r : Report P) → mapped f (mapped g r) ≡ r
+back_and_there f g e Clean = refl
+back_and_there f g e (Failing p t k) = ap (λ q. Failing q t k) (e p)
+
+pub stripe_back : (r : Report LocalPosition) → StripeFits r → stripe_in (packed_stripe r) ≡ r
+stripe_back r h =
+    ap (mapped local) (report_back (mapped (λ p. p.0) r) 0 (packed_stripe r) h (omega arith)) ∙ back_and_there local (λ p. p.0) (λ p. refl) r
 
 -- a batch's report, alone or with a side beside it
-pub batch_back : (r : BatchReport) (side : ℕ) → BatchFits r → batch_in (packed_batch r + 2 ^ 46 * side) ≡ r
-batch_back B.Clean side h = let e : failing_in (0 + 2 ^ 46 * side) ≡ 0 = omega arith in rw (eq-eqb (failing_in (0 + 2 ^ 46 * side)) 0 e)
-batch_back (B.Failing p t k) side h =
-    read_back p.0 t k side (packed_failing p.0 t k + 2 ^ 46 * side) h refl B.Clean (λ q. B.Failing (batch q))
+pub batch_back : (r : Report BatchPosition) (side : ℕ) → BatchFits r → batch_in (packed_batch r + 2 ^ 46 * side) ≡ r
+batch_back r side h =
+    ap (mapped batch) (report_back (mapped (λ p. p.0) r) side (packed_batch r + 2 ^ 46 * side) h refl) ∙ back_and_there batch (λ p. p.0) (λ p. refl) r
 
-pub side_number_back : (r : BatchReport) (side : Side) → BatchFits r → side_in (packed_batch r + 2 ^ 46 * side_number side) ≡ side_number side
-side_number_back B.Clean Neither h = refl
-side_number_back B.Clean Left h = refl
-side_number_back B.Clean Right h = refl
-side_number_back (B.Failing p t k) side h = side_back p.0 t k (side_number side) (packed_failing p.0 t k + 2 ^ 46 * side_number side) h refl (few side)
+pub side_number_back : (r : Report BatchPosition) (side : Side) → BatchFits r → side_in (packed_batch r + 2 ^ 46 * side_number side) ≡ side_number side
+side_number_back Clean Neither h = refl
+side_number_back Clean Left h = refl
+side_number_back Clean Right h = refl
+side_number_back (Failing p t k) side h = side_back p.0 t k (side_number side) (packed_failing p.0 t k + 2 ^ 46 * side_number side) h refl (few side)
   where
     few : (side : Side) → side_number side < 4
     few Neither = omega arith

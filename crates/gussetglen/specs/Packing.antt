@@ -1,19 +1,18 @@
 -- The boundary's packing: how an answer is one number, and how a number is read. Bits 0 to 7 are the refusal's number, 0 where there is none. Assumes nothing.
-use Rattle.std.specs.Prelude.{ℕ, ◌+◌, ◌*◌, ◌/◌, ◌%◌, ◌^◌, ◌<◌, cond, eqb}
+use Rattle.std.specs.Prelude.{ℕ, ◌+◌, ◌*◌, ◌/◌, ◌%◌, ◌^◌, ◌<◌, cond, eqb, Result, Ok, Err}
 use Rattle.refusal.specs.Number.{number_of}
+use Rattle.refusal.specs.declared.Refusal.{Refusal}
 use Rattle.accept.specs.Check.{Verdict, accepted, refusal}
 use Rattle.report.specs.Position.{local, batch}
+use Rattle.report.specs.Mapped.{mapped}
 use Rattle.report.specs.Told.{side_number}
 use Rattle.fill.specs.Run.{Answer, reports, refuses}
 use Rattle.scratch.specs.Answer.{Told}
-use Rattle.report.specs.declared.StripeReport.{StripeReport}
-use Rattle.report.specs.declared.StripeReport.TheVariants as S
-use Rattle.report.specs.declared.BatchReport.{BatchReport}
-use Rattle.report.specs.declared.BatchReport.TheVariants as B
-use Rattle.report.specs.declared.Raised.{Raised}
-use Rattle.report.specs.declared.Raised.TheVariants as R
+use Rattle.report.specs.declared.LocalPosition.{LocalPosition}
+use Rattle.report.specs.declared.BatchPosition.{BatchPosition}
+use Rattle.report.specs.declared.Report.{Report}
+use Rattle.report.specs.declared.Report.TheVariants.{Clean, Failing}
 use Rattle.report.specs.declared.Joined.{Joined}
-use Rattle.report.specs.declared.Joined.TheVariants as J
 
 -- ---- an answer as a number
 
@@ -29,28 +28,30 @@ packed_verdict (refusal number offset) = packed_refusal number offset
 abbrev pub packed_failing : (position total kept : ℕ) → ℕ
 packed_failing position total kept = 256 + 512 * position + 2 ^ 21 * kept + 2 ^ 30 * total
 
--- a clean report is 0 in all bits
-abbrev pub packed_stripe : StripeReport → ℕ
-packed_stripe S.Clean = 0
-packed_stripe (S.Failing p total kept) = packed_failing p.0 total kept
+-- a report of either kind, its position a bare number: a clean one is 0 in all bits
+abbrev pub packed_report : Report ℕ → ℕ
+packed_report Clean = 0
+packed_report (Failing position total kept) = packed_failing position total kept
+
+abbrev pub packed_stripe : Report LocalPosition → ℕ
+packed_stripe r = packed_report (mapped (λ p. p.0) r)
+
+abbrev pub packed_batch : Report BatchPosition → ℕ
+packed_batch r = packed_report (mapped (λ p. p.0) r)
 
 -- a run's answer
 abbrev pub packed_answer : Answer → ℕ
 packed_answer (reports r) = packed_stripe r
 packed_answer (refuses number offset) = packed_refusal number offset
 
-abbrev pub packed_batch : BatchReport → ℕ
-packed_batch B.Clean = 0
-packed_batch (B.Failing p total kept) = packed_failing p.0 total kept
-
-abbrev pub packed_raised : Raised → ℕ
-packed_raised (R.Report b) = packed_batch b
-packed_raised (R.Refused r) = packed_refusal (number_of r) 0
+abbrev pub packed_raised : Result (Report BatchPosition) Refusal → ℕ
+packed_raised (Ok b) = packed_batch b
+packed_raised (Err r) = packed_refusal (number_of r) 0
 
 -- bits 46 and 47 the side whose records stand: 0 none, 1 left, 2 right
-abbrev pub packed_joined : Joined → ℕ
-packed_joined (J.Report b side) = packed_batch b + 2 ^ 46 * side_number side
-packed_joined (J.Refused r) = packed_refusal (number_of r) 0
+abbrev pub packed_joined : Result Joined Refusal → ℕ
+packed_joined (Ok j) = packed_batch j.report + 2 ^ 46 * side_number j.side
+packed_joined (Err r) = packed_refusal (number_of r) 0
 
 -- a pool: bits 8 to 23 the length, bits 24 to 39 the peak
 abbrev pub packed_pool : Told → ℕ
@@ -86,11 +87,14 @@ abbrev pub peak_in : ℕ → ℕ
 peak_in word = word / 2 ^ 24 % 2 ^ 16
 
 -- bit 8 clear counts as clean
-abbrev pub stripe_in : ℕ → StripeReport
-stripe_in word = cond (eqb (failing_in word) 0) S.Clean (S.Failing (local (position_in word)) (total_in word) (kept_in word))
+abbrev pub report_in : ℕ → Report ℕ
+report_in word = cond (eqb (failing_in word) 0) Clean (Failing (position_in word) (total_in word) (kept_in word))
 
-abbrev pub batch_in : ℕ → BatchReport
-batch_in word = cond (eqb (failing_in word) 0) B.Clean (B.Failing (batch (position_in word)) (total_in word) (kept_in word))
+abbrev pub stripe_in : ℕ → Report LocalPosition
+stripe_in word = mapped local (report_in word)
+
+abbrev pub batch_in : ℕ → Report BatchPosition
+batch_in word = mapped batch (report_in word)
 
 -- ---- what the fields hold
 
@@ -100,13 +104,15 @@ pub record Fields (position total kept : ℕ) : Type 0 where
   pub total_fits : total < 2 ^ 16
   pub kept_fits : kept < 2 ^ 9
 
-abbrev pub StripeFits : StripeReport → Type 0
-StripeFits S.Clean = Unit {0}
-StripeFits (S.Failing p total kept) = Fields p.0 total kept
+abbrev pub ReportFits : Report ℕ → Type 0
+ReportFits Clean = Unit {0}
+ReportFits (Failing position total kept) = Fields position total kept
 
-abbrev pub BatchFits : BatchReport → Type 0
-BatchFits B.Clean = Unit {0}
-BatchFits (B.Failing p total kept) = Fields p.0 total kept
+abbrev pub StripeFits : Report LocalPosition → Type 0
+StripeFits r = ReportFits (mapped (λ p. p.0) r)
+
+abbrev pub BatchFits : Report BatchPosition → Type 0
+BatchFits r = ReportFits (mapped (λ p. p.0) r)
 
 abbrev pub AnswerFits : Answer → Type 0
 AnswerFits (reports r) = StripeFits r

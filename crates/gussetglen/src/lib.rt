@@ -1,93 +1,44 @@
 //! The boundary: what a Rust host calls. Each function is thin over a proved layer, takes its arguments as they come, and answers one packed number.
 #![tactic(auto)]
 
-ghost use Rattle.std.specs.Prelude.{◌≡◌, ◌+◌, ◌<◌, ◌^◌};
+ghost use Rattle.std.specs.Prelude.{◌≡◌, ◌<◌, ◌^◌};
 ghost use Rattle.refusal.specs.Number.{number_of};
 ghost use Rattle.accept.specs.Check.{check_of};
-ghost use Rattle.report.specs.Told.{side_number};
-ghost use Rattle.fill.specs.Run.{answer, call, answer_of, values_of, buffer_of};
-ghost use Rattle.scratch.specs.Answer.{told, slots_after};
+ghost use Rattle.fill.specs.Run.{call, answer_of, values_of, buffer_of};
+ghost use Rattle.scratch.specs.Answer.{slots_after};
 ghost use Rattle.scratch.specs.Answer as Slots;
-ghost use Rattle.gussetglen.specs.Packing.{packed_pool, packed_refusal, packed_verdict, packed_failing, packed_stripe, packed_answer, packed_batch, Fields, StripeFits, AnswerFits, BatchFits, stripe_in, batch_in};
+ghost use Rattle.gussetglen.specs.Packing.{packed_pool, packed_refusal, packed_verdict, packed_report, packed_answer, ReportFits, report_in, stripe_in, batch_in};
 ghost use Rattle.gussetglen.specs.Boundary.{raised_word, joined_word, policy_of};
 
-use accept::Checked;
-use fill::Ran;
-use refusal::Refusal;
-use report::{BatchPosition, BatchReport, Joined, LocalPosition, Raised, Side, StripeReport};
+use refusal::RefusedAt;
+use report::{BatchPosition, BatchReport, Joined, LocalPosition, Report, StripeReport};
 use scratch::{Allocation, Policy};
 
-fn pack_refusal(refusal: Refusal, offset: usize) -> u64
-    requires { offset < 2 ^ 32 }
-    ensures { result ≡ packed_refusal (number_of refusal) offset }
+fn pack_refusal(refused: RefusedAt) -> u64
+    requires { refused.offset < 2 ^ 32 }
+    ensures { result ≡ packed_refusal (number_of refused.refusal) refused.offset }
 {
-    refusal::number(refusal) as u64 + 256 * (offset as u64)
+    u8::from(refused.refusal) as u64 + 256 * (refused.offset as u64)
 }
 
-fn pack_failing(position: usize, total: usize, kept: usize) -> u64
-    requires { Fields position total kept }
-    ensures { (result ≡ packed_failing position total kept) × (result < 2 ^ 46) }
-{
-    256 + 512 * (position as u64) + 0x20_0000 * (kept as u64) + 0x4000_0000 * (total as u64)
-}
-
-fn pack_stripe(report: StripeReport) -> u64
-    requires { StripeFits report }
-    ensures { result ≡ packed_stripe report }
+// A report of either kind, its position a bare number.
+fn pack_report(report: Report<usize>) -> u64
+    requires { ReportFits report }
+    ensures { (result ≡ packed_report report) × (result < 2 ^ 46) }
 {
     match report {
-        StripeReport::Clean => 0,
-        StripeReport::Failing {
+        Report::Clean => 0,
+        Report::Failing {
             position,
             total,
             kept,
-        } => pack_failing(position.column(), total, kept),
+        } => {
+            256 + 512 * (position as u64) + 0x20_0000 * (kept as u64) + 0x4000_0000 * (total as u64)
+        }
     }
 }
 
-fn pack_run(ran: Ran) -> u64
-    requires { AnswerFits (answer ran) }
-    ensures { result ≡ packed_answer (answer ran) }
-{
-    match ran {
-        Ran::Report(report) => pack_stripe(report),
-        Ran::Refused(refusal, offset) => pack_refusal(refusal, offset),
-    }
-}
-
-fn pack_batch(report: BatchReport) -> u64
-    requires { BatchFits report }
-    ensures { (result ≡ packed_batch report) × (result < 2 ^ 46) }
-{
-    match report {
-        BatchReport::Clean => 0,
-        BatchReport::Failing {
-            position,
-            total,
-            kept,
-        } => pack_failing(position.column(), total, kept),
-    }
-}
-
-fn pack_side(side: Side) -> u64
-    ensures { (result ≡ side_number side) × (result < 3) }
-{
-    match side {
-        Side::Neither => 0,
-        Side::Left => 1,
-        Side::Right => 2,
-    }
-}
-
-fn pack_pool(allocation: Allocation) -> u64
-    ensures { result ≡ packed_pool (told allocation) }
-{
-    match allocation {
-        Allocation::Sized { length, peak } => 0x100 * (length as u64) + 0x100_0000 * (peak as u64),
-        Allocation::Refused(refusal) => pack_refusal(refusal, 0),
-    }
-}
-
+// No `From`: a bool alone does not say which policy it names.
 fn policy_of(per_wire: bool) -> Policy
     ensures { result ≡ policy_of per_wire }
 {
@@ -98,30 +49,30 @@ fn policy_of(per_wire: bool) -> Policy
     }
 }
 
-fn stripe_in(word: u64) -> StripeReport
-    ensures { result ≡ stripe_in word }
+// The report that a word holds, its position a bare number.
+fn report_in(word: u64) -> Report<usize>
+    ensures { result ≡ report_in word }
 {
     if word / 0x100 % 2 == 0 {
-        return StripeReport::Clean;
+        return Report::Clean;
     }
-    StripeReport::Failing {
-        position: LocalPosition::in_stripe((word / 0x200 % 0x1000) as usize),
+    Report::Failing {
+        position: (word / 0x200 % 0x1000) as usize,
         total: (word / 0x4000_0000 % 0x1_0000) as usize,
         kept: (word / 0x20_0000 % 0x200) as usize,
     }
 }
 
+fn stripe_in(word: u64) -> StripeReport
+    ensures { result ≡ stripe_in word }
+{
+    report_in(word).map(LocalPosition::in_stripe)
+}
+
 fn batch_in(word: u64) -> BatchReport
     ensures { result ≡ batch_in word }
 {
-    if word / 0x100 % 2 == 0 {
-        return BatchReport::Clean;
-    }
-    BatchReport::Failing {
-        position: BatchPosition::in_batch((word / 0x200 % 0x1000) as usize),
-        total: (word / 0x4000_0000 % 0x1_0000) as usize,
-        kept: (word / 0x20_0000 % 0x200) as usize,
-    }
+    report_in(word).map(BatchPosition::in_batch)
 }
 
 // The program check.
@@ -130,8 +81,8 @@ pub extern "C" fn gussetglen_check(code: &[u8], rows: usize) -> u64
     ensures { result ≡ packed_verdict (check_of code.now rows) }
 {
     match accept::check(code, rows) {
-        Checked::Accepted => 0,
-        Checked::Refused(refusal, offset) => pack_refusal(refusal, offset),
+        Ok(()) => 0,
+        Err(refused) => pack_refusal(refused),
     }
 }
 
@@ -151,7 +102,10 @@ pub extern "C" fn gussetglen_run(
     ensures values_after { values.new ≡ values_of (call code.now rows width first count cap values.old report.old) }
     ensures report_after { report.new ≡ buffer_of (call code.now rows width first count cap values.old report.old) }
 {
-    pack_run(fill::run(code, rows, width, first, count, cap, values, report))
+    match fill::run(code, rows, width, first, count, cap, values, report) {
+        Ok(stripe) => pack_report(stripe.map(LocalPosition::column)),
+        Err(refused) => pack_refusal(refused),
+    }
 }
 
 // A stripe's report as one of the batch.
@@ -163,8 +117,8 @@ pub extern "C" fn gussetglen_raise(start: usize, report: u64) -> u64
         return report;
     }
     match report::raise(start, stripe_in(report)) {
-        Raised::Report(raised) => pack_batch(raised),
-        Raised::Refused(refusal) => pack_refusal(refusal, 0),
+        Ok(raised) => pack_report(raised.map(BatchPosition::column)),
+        Err(refusal) => pack_refusal(refusal.into()),
     }
 }
 
@@ -180,12 +134,14 @@ pub extern "C" fn gussetglen_join(left: u64, right: u64) -> u64
         return right;
     }
     match report::join(batch_in(left), batch_in(right)) {
-        Joined::Report(standing, side) => pack_batch(standing) + 0x4000_0000_0000 * pack_side(side),
-        Joined::Refused(refusal) => pack_refusal(refusal, 0),
+        Ok(Joined { report, side }) => {
+            pack_report(report.map(BatchPosition::column)) + 0x4000_0000_0000 * (side as u64)
+        }
+        Err(refusal) => pack_refusal(refusal.into()),
     }
 }
 
-// The slots of the scratch wires.
+// The slots of the scratch wires. The policy is a flag, as C has it.
 #[unsafe(no_mangle)]
 pub extern "C" fn gussetglen_pool(
     wires: usize,
@@ -199,5 +155,8 @@ pub extern "C" fn gussetglen_pool(
     ensures slots_after { slots.new ≡ slots_after wires ends.now mentions.now marks.now slots.old (policy_of per_wire) }
 {
     let policy = policy_of(per_wire);
-    pack_pool(scratch::pool(wires, ends, mentions, marks, slots, policy))
+    match scratch::pool(wires, ends, mentions, marks, slots, policy) {
+        Ok(Allocation { length, peak }) => 0x100 * (length as u64) + 0x100_0000 * (peak as u64),
+        Err(refusal) => pack_refusal(refusal.into()),
+    }
 }

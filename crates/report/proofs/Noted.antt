@@ -1,23 +1,23 @@
 -- Laws of noting: one violation more, the kept records, and the answer at the end. Assumes nothing.
-use mathlib.Core.Path.{◌≡◌, refl, sym, ap, ◌∙◌, subst}
-use mathlib.Core.Bool.{Bool, true, false, cond}
+use mathlib.Core.Path.{◌≡◌, refl, sym, ap, ◌∙◌}
 use mathlib.Core.List.{List, [], ◌∷◌, ◌++◌}
-use Prim.Native.Nat.{ℕ, zero, suc, ◌+◌, ◌*◌, ◌<◌, ◌≤◌, min}
-use native.Mathlib.Nat.{le_of_suc-le-suc, not-suc-le-zero}
+use Prim.Native.Nat.{ℕ, suc, ◌+◌, ◌*◌, ◌<◌, ◌≤◌, min}
 use native.Mathlib.Decide.{dec_lt}
 use native.Mathlib.Omega.{arith}
-use native.Mathlib.Numerals.{add-one}
-use lib.ListN.{length, get_or, take, drop, set, length-append, length-take}
-use lib.Seq.{take_all, take-nil, take-append-le, take-append_seam, sets, sets-eq, length-sets}
-use lib.Dec.{ltb}
+use lib.ListN.{length, take, drop, length-append, length-take}
+use lib.Seq.{take_all, take-nil, take-append-le, take-append_seam, sets, sets-eq}
 use borrow.Author.Tests.{eq-eqb, ne_eqb, lt-ltb, le-ltb}
+use Rattle.std.specs.Prelude.{Option, None, Some}
+use Rattle.report.specs.Position.{local}
 use Rattle.report.specs.Sizes.{record_words}
 use Rattle.report.specs.Records.{Lowest, clean, at, words, words_of, report_of, records_of}
 use Rattle.report.specs.Working.{Shows, note_at, Begins, pushed}
+use Rattle.report.specs.declared.LocalPosition.{LocalPosition}
+use Rattle.report.specs.declared.Report.{Report}
+use Rattle.report.specs.declared.Report.TheVariants.{Failing}
 use Rattle.report.specs.declared.record.Failure.{Failure}
-use Rattle.report.specs.declared.StripeReport.TheVariants.{Clean as RClean, Failing}
 use Rattle.report.specs.declared.noting.Low.{Low}
-use Rattle.report.specs.declared.noting.Low.TheVariants.{Clean, At}
+use Rattle.report.specs.declared.noting.Noting.{Noting}
 
 -- ---- the kept records
 
@@ -29,7 +29,7 @@ words_append : (fs gs : List Failure) → words (fs ++ gs) ≡ words fs ++ words
 words_append [] gs = refl
 words_append (f ∷ fs) gs = ap (λ l. f.head ∷ f.one ∷ f.two ∷ l) (words_append fs gs)
 
-pub push_kept : (cap : ℕ) (fs : List Failure) (f : Failure) (records : List ℕ) → cap * record_words ≤ length records
+push_kept : (cap : ℕ) (fs : List Failure) (f : Failure) (records : List ℕ) → cap * record_words ≤ length records
     → Begins (words (take cap fs)) records → Begins (words (take cap (fs ++ f ∷ []))) (pushed cap (length fs) f records)
 push_kept cap fs f records room h = go (dec_lt (length fs) cap)
   where
@@ -45,79 +45,52 @@ push_kept cap fs f records room h = go (dec_lt (length fs) cap)
     go (no n) =
         rw (le-ltb (length fs) cap (omega arith), take-append-le cap fs (f ∷ []) (omega arith)) h
 
--- ---- noting: what the state and the records show before, and after
+-- ---- noting: what is shown before, and after
 
-not-both : (p n : ℕ) → At p n ≡ Clean → ⊥
-not-both p n e = let z : ◌≡◌ {A = ℕ} 0 1 = cc in omega arith
+not-both : (low : Low) → ◌≡◌ {A = Option Low} (Some low) None → ⊥
+not-both low e = let z : ◌≡◌ {A = ℕ} 0 1 = cc in omega arith
 
-at_place : {p n q m : ℕ} → At p n ≡ At q m → p ≡ q
-at_place e = cc
+-- the state before holds the column and the total that are shown
+same_low : (low : Low) (p t : ℕ) (o : Option Low) → o ≡ Some low → o ≡ Some (record { column = p; total = t }) → (low.column ≡ p) × (low.total ≡ t)
+same_low low p t o e h = (cc, cc)
 
-at_total : {p n q m : ℕ} → At p n ≡ At q m → n ≡ m
-at_total e = cc
+module _ (n m : Noting) (k earlier : ℕ) (f : Failure) (room : n.cap * record_words ≤ length n.records)
+    (cap : m.cap ≡ n.cap) (state : m.lowest ≡ Some (record { column = k; total = earlier + 1 })) (records : m.records ≡ pushed n.cap earlier f n.records) where
+  -- the failures of the column before it, put in the order that they came
+  added : (fs : List Failure) → earlier ≡ length fs → Begins (words (take n.cap fs)) n.records → Shows (at k (fs ++ f ∷ [])) m
+  added fs e h = record {
+    state = state ∙ ap (λ (t : ℕ). Some (record { column = k; total = t })) (omega (arith, length-append fs (f ∷ [])));
+    begins = rw (cap, records, e) (push_kept n.cap fs f n.records room h);
+  }
 
-module _ (cap k : ℕ) (f : Failure) (records : List ℕ) where
-  pushed_room : (n : ℕ) → cap * record_words ≤ length records → cap * record_words ≤ length (pushed cap n f records)
-  pushed_room n h = go (ltb n cap)
-    where
-      go : (b : Bool) → cap * record_words ≤ length (cond b (sets records (n * record_words) (words_of f)) records)
-      go true = rw (length-sets records (n * record_words) (words_of f)) h
-      go false = h
+  begun : earlier ≡ 0 → Shows (at k (f ∷ [])) m
+  begun e = added [] e (rw take-nil refl)
 
-  fresh : (s : Low) (l : Lowest) → Shows cap l s records → Shows cap (at k (f ∷ [])) (At k 1) (pushed cap 0 f records)
-  fresh s l h = record { state = refl; begins = push_kept cap [] f records h.room (rw take-nil refl); room = pushed_room 0 h.room }
+  pub note_first : n.lowest ≡ None → earlier ≡ 0 → (l : Lowest) → Shows l n → Shows (note_at k f l) m
+  note_first o e clean h = begun e
+  note_first o e (at p fs) h = absurd (not-both (record { column = p; total = length fs }) (sym h.state ∙ o))
 
-  pub note_clean : (l : Lowest) → Shows cap l Clean records → Shows cap (note_at k f l) (At k 1) (pushed cap 0 f records)
-  note_clean clean h = fresh Clean clean h
-  note_clean (at p fs) h = absurd (not-both p (length fs) (sym h.state))
+  pub note_lower : (low : Low) → n.lowest ≡ Some low → k < low.column → earlier ≡ 0 → (l : Lowest) → Shows l n → Shows (note_at k f l) m
+  note_lower low o d e clean h = absurd (not-both low (sym o ∙ h.state))
+  note_lower low o d e (at p fs) h =
+      let same = same_low low p (length fs) n.lowest o h.state in
+      rw (le-ltb p k (omega arith), ne_eqb p k (λ z. omega arith)) (begun e)
 
-  pub note-drop : (p n : ℕ) → p < k → (l : Lowest) → Shows cap l (At p n) records → Shows cap (note_at k f l) (At p n) records
-  note-drop p n o clean h = absurd (not-both p n h.state)
-  note-drop p n o (at q fs) h = rw (lt-ltb q k (subst (λ x. x < k) (at_place h.state) o)) h
+  pub note_more : (low : Low) → n.lowest ≡ Some low → low.column ≡ k → earlier ≡ low.total → (l : Lowest) → Shows l n → Shows (note_at k f l) m
+  note_more low o d e clean h = absurd (not-both low (sym o ∙ h.state))
+  note_more low o d e (at p fs) h =
+      let same = same_low low p (length fs) n.lowest o h.state in
+      rw (le-ltb p k (omega arith), eq-eqb p k (omega arith)) (added fs (omega arith) h.begins)
 
-  pub note_more : (p n : ℕ) → p ≡ k → (l : Lowest) → Shows cap l (At p n) records → Shows cap (note_at k f l) (At k (n + 1)) (pushed cap n f records)
-  note_more p n o clean h = absurd (not-both p n h.state)
-  note_more p n o (at q fs) h =
-      let e : q ≡ k = sym (at_place h.state) ∙ o in
-      let t : n ≡ length fs = at_total h.state in
-      rw (le-ltb q k (omega arith), eq-eqb q k e, t)
-      (record {
-        state = ap (At k) (sym (length-append fs (f ∷ [])));
-        begins = push_kept cap fs f records h.room h.begins;
-        room = pushed_room (length fs) h.room;
-      })
+-- ---- the answer, from what is shown at the end
 
-  pub note_fresh : (p n : ℕ) → k ≤ p → (p ≡ k → ⊥) → (l : Lowest) → Shows cap l (At p n) records → Shows cap (note_at k f l) (At k 1) (pushed cap 0 f records)
-  note_fresh p n o d clean h = absurd (not-both p n h.state)
-  note_fresh p n o d (at q fs) h =
-      let e : p ≡ q = at_place h.state in
-      rw (le-ltb q k (omega arith), ne_eqb q k (λ z. d (e ∙ z))) (fresh (At p n) (at q fs) h)
-
--- ---- the answer, from what the state shows at the end
-
-pub answer_clean : (cap : ℕ) (l : Lowest) (records buffer : List ℕ) → Shows cap l Clean records → (RClean ≡ report_of cap l) × (buffer ≡ records_of cap l buffer)
-answer_clean cap clean records buffer h = (refl, refl)
-answer_clean cap (at p fs) records buffer h = absurd (not-both p (length fs) (sym h.state))
-
-pub answer_failing : (cap : ℕ) (l : Lowest) (records buffer : List ℕ) (p t k : ℕ) → k ≡ min t cap → Shows cap l (At p t) records
-    → (Failing (record { 0 = p }) t k ≡ report_of cap l) × (take (k * record_words) records ++ drop (k * record_words) buffer ≡ records_of cap l buffer)
-answer_failing cap clean records buffer p t k e h = absurd (not-both p t h.state)
-answer_failing cap (at q fs) records buffer p t k e h =
-    let place : p ≡ q = at_place h.state in
-    let total : t ≡ length fs = at_total h.state in
-    let few : k ≡ min (length fs) cap = e ∙ ap (λ n. min n cap) total in
-    let size : k * record_words ≡ length (words (take cap fs)) = omega (arith, length-words (take cap fs), length-take cap fs) in (
-      λ j. Failing (record { 0 = place j }) (total j) (few j),
-      rw size (ap (λ ws. ws ++ drop (length (words (take cap fs))) buffer) h.begins),
+pub answer_failing : (n : Noting) (l : Lowest) (buffer : List ℕ) (low : Low) (k : ℕ) → k ≡ min low.total n.cap → n.lowest ≡ Some low → Shows l n
+    → (◌≡◌ {A = Report LocalPosition} (Failing (local low.column) low.total k) (report_of n.cap l)) × (take (k * record_words) n.records ++ drop (k * record_words) buffer ≡ records_of n.cap l buffer)
+answer_failing n clean buffer low k e o h = absurd (not-both low (sym o ∙ h.state))
+answer_failing n (at q fs) buffer low k e o h =
+    let same = same_low low q (length fs) n.lowest o h.state in
+    let few : k ≡ min (length fs) n.cap = e ∙ ap (λ t. min t n.cap) same.1 in
+    let size : k * record_words ≡ length (words (take n.cap fs)) = omega (arith, length-words (take n.cap fs), length-take n.cap fs) in (
+      λ j. Failing (local (same.0 j)) (same.1 j) (few j),
+      rw size (ap (λ ws. ws ++ drop (length (words (take n.cap fs))) buffer) h.begins),
     )
-
--- ---- a copy to the front of a list, one element more
-
-pub front_more : (s d : List ℕ) (i : ℕ) → i < length s → i < length d → set (take i s ++ drop i d) i (get_or s i 0) ≡ take (i + 1) s ++ drop (i + 1) d
-front_more s d i h k = rw add-one (go s d i h k)
-  where
-    go : (s d : List ℕ) (i : ℕ) → i < length s → i < length d → set (take i s ++ drop i d) i (get_or s i 0) ≡ take (suc i) s ++ drop (suc i) d
-    go [] d i h k = absurd (not-suc-le-zero h)
-    go (x ∷ s) [] i h k = absurd (not-suc-le-zero k)
-    go (x ∷ s) (y ∷ d) zero h k = refl
-    go (x ∷ s) (y ∷ d) (suc i) h k = ap (λ l. x ∷ l) (go s d i (le_of_suc-le-suc h) (le_of_suc-le-suc k))

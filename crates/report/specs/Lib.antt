@@ -1,5 +1,6 @@
 pub mod Sizes
 pub mod Position
+pub mod Mapped
 pub mod Join
 pub mod Told
 pub mod Records

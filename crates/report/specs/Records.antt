@@ -2,8 +2,9 @@
 use Rattle.std.specs.Prelude.{ℕ, zero, suc, ◌+◌, ◌*◌, ◌^◌, min, List, [], ◌∷◌, ◌++◌, length, take, drop}
 use Rattle.report.specs.Position.{local}
 use Rattle.report.specs.declared.record.Failure.{Failure}
-use Rattle.report.specs.declared.StripeReport.{StripeReport}
-use Rattle.report.specs.declared.StripeReport.TheVariants.{Clean, Failing}
+use Rattle.report.specs.declared.LocalPosition.{LocalPosition}
+use Rattle.report.specs.declared.Report.{Report}
+use Rattle.report.specs.declared.Report.TheVariants.{Clean, Failing}
 
 -- most significant first: opcode in 8 bits, instruction number in 24, path spec in 32
 abbrev pub packed : ℕ → ℕ → ℕ → ℕ
@@ -40,7 +41,7 @@ lowest v (suc n) = or_else (lowest v n) (fails_at n (v n))
 -- ---- what is answered of it
 
 -- total counts every violation of that column; kept is the smaller of total and cap
-abbrev pub report_of : ℕ → Lowest → StripeReport
+abbrev pub report_of : ℕ → Lowest → Report LocalPosition
 report_of cap clean = Clean
 report_of cap (at p fs) = Failing (local p) (length fs) (min (length fs) cap)
 

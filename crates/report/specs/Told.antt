@@ -1,17 +1,15 @@
 -- What each case of an answer says: document 01's number of the refusal, 0 where there is none, and the values that come with it.
-use Rattle.std.specs.Prelude.{ℕ, ◌+◌, cond, List, [], ◌∷◌, ltb, eqb}
+use Rattle.std.specs.Prelude.{ℕ, ◌+◌, cond, List, [], ◌∷◌, ltb, eqb, Result, Ok, Err}
 use Rattle.refusal.specs.Number.{number_of}
+use Rattle.refusal.specs.declared.Refusal.{Refusal}
 use Rattle.report.specs.Sizes.{max_width}
-use Rattle.report.specs.declared.StripeReport.{StripeReport}
-use Rattle.report.specs.declared.StripeReport.TheVariants as S
-use Rattle.report.specs.declared.BatchReport.{BatchReport}
-use Rattle.report.specs.declared.BatchReport.TheVariants as B
-use Rattle.report.specs.declared.Raised.{Raised}
-use Rattle.report.specs.declared.Raised.TheVariants as R
+use Rattle.report.specs.declared.LocalPosition.{LocalPosition}
+use Rattle.report.specs.declared.BatchPosition.{BatchPosition}
+use Rattle.report.specs.declared.Report.{Report}
+use Rattle.report.specs.declared.Report.TheVariants.{Clean, Failing}
 use Rattle.report.specs.declared.Side.{Side}
 use Rattle.report.specs.declared.Side.TheVariants.{Neither, Left, Right}
 use Rattle.report.specs.declared.Joined.{Joined}
-use Rattle.report.specs.declared.Joined.TheVariants as J
 
 pub record Told : Type 0 where
   pub number : ℕ
@@ -26,17 +24,19 @@ refusal n = record { number = n; values = [] }
 -- ---- the cases
 
 -- a clean report has no values; a failing one has position, total and kept
-abbrev pub stripe_values : StripeReport → List ℕ
-stripe_values S.Clean = []
-stripe_values (S.Failing p total kept) = p.0 ∷ total ∷ kept ∷ []
+abbrev pub values_by : {P : Type 0} → (P → ℕ) → Report P → List ℕ
+values_by column Clean = []
+values_by column (Failing p total kept) = column p ∷ total ∷ kept ∷ []
 
-abbrev pub batch_values : BatchReport → List ℕ
-batch_values B.Clean = []
-batch_values (B.Failing p total kept) = p.0 ∷ total ∷ kept ∷ []
+abbrev pub stripe_values : Report LocalPosition → List ℕ
+stripe_values = values_by (λ p. p.0)
 
-abbrev pub raised_told : Raised → Told
-raised_told (R.Report b) = given (batch_values b)
-raised_told (R.Refused r) = refusal (number_of r)
+abbrev pub batch_values : Report BatchPosition → List ℕ
+batch_values = values_by (λ p. p.0)
+
+abbrev pub raised_told : Result (Report BatchPosition) Refusal → Told
+raised_told (Ok b) = given (batch_values b)
+raised_told (Err r) = refusal (number_of r)
 
 -- no side, the left, the right
 abbrev pub side_number : Side → ℕ
@@ -45,9 +45,9 @@ side_number Left = 1
 side_number Right = 2
 
 -- the side, then the report's values
-abbrev pub joined_told : Joined → Told
-joined_told (J.Report b side) = given (side_number side ∷ batch_values b)
-joined_told (J.Refused r) = refusal (number_of r)
+abbrev pub joined_told : Result Joined Refusal → Told
+joined_told (Ok j) = given (side_number j.side ∷ batch_values j.report)
+joined_told (Err r) = refusal (number_of r)
 
 -- ---- raising and joining in these words; total and kept are passed on as they came
 

@@ -3,10 +3,12 @@
 
 ghost use Rattle.std.specs.Prelude.{◌≡◌};
 ghost use Rattle.report.specs.Position.{local, batch};
+ghost use Rattle.report.specs.Mapped.{mapped, Gives};
 ghost use Rattle.report.specs.Join.{raised, joined};
 ghost use Rattle.report.specs.Told.{raised_told, joined_told, stripe_values, batch_values, raising, joining};
 
 use refusal::Refusal;
+use std::cmp::Ordering;
 
 pub mod noting;
 pub mod record;
@@ -14,12 +16,14 @@ pub mod record;
 // A batch is at most this wide, so its positions are below it.
 pub const MAX_WIDTH: usize = 4096;
 
-// A position counted from a stripe's start. Its number is hidden, as the batch's is: only `raise` turns the one into the other.
-#[derive(Drop)]
+// A position counted from a stripe's start. It is a type of its own beside the next, of the same shape, so that neither is ever
+// taken for the other: both hide their number, and only `raise` turns the one into the other. (`column`, `in_stripe`, `in_batch`
+// and `map` are the doors that the boundary needs.)
+#[derive(Clone, Copy, PartialEq, Eq, Debug)]
 pub struct LocalPosition(usize);
 
 // A position counted from the batch's start.
-#[derive(Clone, Copy)]
+#[derive(Clone, Copy, PartialEq, Eq, Debug)]
 pub struct BatchPosition(usize);
 
 impl LocalPosition {
@@ -52,108 +56,100 @@ impl BatchPosition {
     }
 }
 
-// What a run answers of its stripe.
-#[derive(Drop)]
-pub enum StripeReport {
+// What is said of a run's columns. No Option of the failing part: the two cases are known by these names, to the host too.
+#[derive(Clone, Copy, PartialEq, Eq, Debug)]
+pub enum Report<P> {
     Clean,
     Failing {
-        position: LocalPosition,
+        position: P,
         total: usize,
         kept: usize,
     },
 }
+
+impl<P> Report<P> {
+    // The same report, its position told in other terms.
+    pub fn map<Q, F: FnOnce(P) -> Q>(self, to: F) -> Report<Q>
+        requires { F.IsAlwaysCallable to }
+        ensures { (g : P → Q) → Gives (F.post to) g → result ≡ mapped g self }
+    {
+        match self {
+            Report::Clean => Report::Clean,
+            Report::Failing {
+                position,
+                total,
+                kept,
+            } => {
+                let position = to(position);
+                Report::Failing {
+                    position,
+                    total,
+                    kept,
+                }
+            }
+        }
+    }
+}
+
+// What a run answers of its stripe.
+pub type StripeReport = Report<LocalPosition>;
 
 // The same of a batch.
-#[derive(Drop)]
-pub enum BatchReport {
-    Clean,
-    Failing {
-        position: BatchPosition,
-        total: usize,
-        kept: usize,
-    },
-}
-
-#[derive(Drop)]
-pub enum Raised {
-    Report(BatchReport),
-    Refused(Refusal),
-}
+pub type BatchReport = Report<BatchPosition>;
 
 // The side of a join whose records stand.
-#[derive(Drop)]
+#[derive(Clone, Copy, PartialEq, Eq, Debug)]
 pub enum Side {
-    Neither,
-    Left,
-    Right,
+    Neither = 0,
+    Left = 1,
+    Right = 2,
 }
 
-#[derive(Drop)]
-pub enum Joined {
-    Report(BatchReport, Side),
-    Refused(Refusal),
+// The report that stands of two, and the side that it came from.
+#[derive(Clone, Copy, PartialEq, Eq, Debug)]
+pub struct Joined {
+    pub report: BatchReport,
+    pub side: Side,
 }
 
-// A stripe's report as one of the batch, the stripe's first column being `start`. The sum is never made where it could pass the largest number.
-pub fn raise(start: usize, report: StripeReport) -> Raised
+// A stripe's report as one of the batch, the stripe's first column being `start`. A sum past the largest number is past the batch.
+pub fn raise(start: usize, report: StripeReport) -> Result<BatchReport, Refusal>
     ensures value { result ≡ raised start report }
     ensures result_value { raised_told result ≡ raising start (stripe_values report) }
 {
-    let StripeReport::Failing {
-        position,
-        total,
-        kept,
-    } = report
-    else {
-        return Raised::Report(BatchReport::Clean);
-    };
-    let p = position.0;
-    if start < MAX_WIDTH {
-        if p < MAX_WIDTH - start {
-            return Raised::Report(BatchReport::Failing {
-                position: BatchPosition(start + p),
+    match report {
+        StripeReport::Clean => Ok(BatchReport::Clean),
+        StripeReport::Failing {
+            position,
+            total,
+            kept,
+        } => match start.checked_add(position.column()) {
+            Some(column) if column < MAX_WIDTH => Ok(BatchReport::Failing {
+                position: BatchPosition(column),
                 total,
                 kept,
-            });
-        }
+            }),
+            _ => Err(Refusal::BadPosition),
+        },
     }
-    Raised::Refused(Refusal::BadPosition)
 }
 
 // The lower failing head of the two, and the side that it came from.
-pub fn join(left: BatchReport, right: BatchReport) -> Joined
+pub fn join(left: BatchReport, right: BatchReport) -> Result<Joined, Refusal>
     ensures value { result ≡ joined left right }
     ensures result_value { joined_told result ≡ joining (batch_values left) (batch_values right) }
 {
-    let BatchReport::Failing {
-        position: p,
-        total: _,
-        kept: _,
-    } = left
-    else {
-        let BatchReport::Failing {
-            position: _,
-            total: _,
-            kept: _,
-        } = right
-        else {
-            return Joined::Report(BatchReport::Clean, Side::Neither);
-        };
-        return Joined::Report(right, Side::Right);
+    let (report, side) = match (left, right) {
+        (BatchReport::Clean, BatchReport::Clean) => (left, Side::Neither),
+        (BatchReport::Failing { .. }, BatchReport::Clean) => (left, Side::Left),
+        (BatchReport::Clean, BatchReport::Failing { .. }) => (right, Side::Right),
+        (BatchReport::Failing { position: p, .. }, BatchReport::Failing { position: q, .. }) => {
+            match p.0.cmp(&q.0) {
+                Ordering::Less => (left, Side::Left),
+                Ordering::Equal => return Err(Refusal::SamePosition),
+                Ordering::Greater => (right, Side::Right),
+            }
+        }
     };
-    let BatchReport::Failing {
-        position: q,
-        total: _,
-        kept: _,
-    } = right
-    else {
-        return Joined::Report(left, Side::Left);
-    };
-    if p.0 == q.0 {
-        return Joined::Refused(Refusal::SamePosition);
-    }
-    if p.0 < q.0 {
-        return Joined::Report(left, Side::Left);
-    }
-    Joined::Report(right, Side::Right)
+    Ok(Joined { report, side })
 }

@@ -6,5 +6,5 @@ use Rattle.gussetglen.proofs.gussetglen_check.Goals as goal
 
 pub pack_refusal-requires : goal.pack_refusal-requires
 pack_refusal-requires c =
-    let w = c.in-Refused in
-    omega (arith, offset_small c.args.code.now c.args.rows (number_of w.refusal) w.offset (λ i. omega (arith, c.type_inv.code i)) (sym w.ensures))
+    let r = c.in-Err.refused in
+    omega (arith, offset_small c.args.code.now c.args.rows (number_of r.refusal) r.offset (λ i. omega (arith, c.type_inv.code i)) (sym c.in-Err.ensures))
