@@ -82,10 +82,10 @@ module _ (F : Col → Col) (s : Stripe) (xs : List ℕ) (size : length xs ≡ s.
           column_past s.width (tabulate (length xs) word) c more
           ∙ same (in_stripe s.first s.count c) (F (col c) r) (col c r) (keeps (col c) r more ∙ nil) nil
 
-  pub on_across : s.first + s.count ≤ s.width → Across F s xs on
+  pub on_across : Across F s xs on
   unfolding on_stripe
-  on_across w = record {
+  on_across = record {
     size = length-tabulate (length xs) _;
-    inside = λ k h. fun_ext λ r. on_column (s.first + k) (omega arith) r ∙ ap (λ b. cond b (F (col (s.first + k)) r) (col (s.first + k) r)) (in_stripe_lem s.first s.count k h);
+    inside = λ k h. fun_ext λ r. on_column (s.first + k) (omega (arith, s.within)) r ∙ ap (λ b. cond b (F (col (s.first + k)) r) (col (s.first + k) r)) (in_stripe_lem s.first s.count k h);
     outside = λ c h o. fun_ext λ r. on_column c h r ∙ ap (λ b. cond b (F (col c) r) (col c r)) (⊎_elim (λ b. below_stripe s.first s.count c b) (λ b. above_stripe s.first s.count c b) o);
   }

@@ -12,6 +12,7 @@ use Rattle.report.specs.Sizes.{record_words}
 use Rattle.report.specs.Records.{report_of, records_of}
 use Rattle.rows.specs.Column.{Col, column, on_stripe}
 use Rattle.rows.specs.Working.{Across}
+use Rattle.rows.specs.declared.Stripe.{Stripe}
 use Rattle.rows.proofs.Stripes.{across_is, where?}
 use Rattle.fill.specs.Meaning.{run_col}
 use Rattle.fill.specs.Run.{Call, reports, verdict_of, lowest_of, answer_of, values_of, buffer_of}
@@ -37,13 +38,15 @@ module _ (c : Call) (ok : verdict_of c ≡ accepted) where
   unfolding buffer_of
   buffer_is = rw ok
 
+-- the stripe of an accepted call
+abbrev pub stripe_in : (c : Call) → Fit c → Stripe
+stripe_in c f = record { rows = c.rows; width = c.width; first = c.first; count = c.count; within = f.shape.stripe }
+
 -- what an accepted call leaves, column by column
-pub values_across : (c : Call) → Fit c
-    → Across (run_col (program_of c.code)) (record { rows = c.rows; width = c.width; first = c.first; count = c.count }) c.values (values_of c)
+pub values_across : (c : Call) (f : Fit c) → Across (run_col (program_of c.code)) (stripe_in c f) c.values (values_of c)
 values_across c f =
     subst (Across _ _ c.values) (sym (values_are c (fit_accepted c f)))
-    (on_across (run_col (program_of c.code)) (record { rows = c.rows; width = c.width; first = c.first; count = c.count }) c.values f.shape.array
-    (dests_keep c.rows (program_of c.code) (checked_dests c.code c.rows f.program)) f.shape.stripe)
+    (on_across (run_col (program_of c.code)) (stripe_in c f) c.values f.shape.array (dests_keep c.rows (program_of c.code) (checked_dests c.code c.rows f.program)))
 
 -- ---- a column in a stripe and out of it
 
@@ -119,7 +122,7 @@ module _ (b : Batch) (fresh : List ℕ) (f : Fit (whole_call b fresh)) where
       → array_after b ss b.values ≡ values_of (whole_call b fresh)
   array_whole ss w r once =
       let m = shares_mixed ss w r b.values f.shape.array in
-      across_is run (record { rows = b.rows; width = b.width; first = 0; count = b.width }) b.values f.shape.array
+      across_is run (stripe_in (whole_call b fresh) f) b.values f.shape.array
       (record {
         size = m.size;
         inside = λ k h. m.once (0 + k) (omega arith) (once (0 + k) (omega arith));

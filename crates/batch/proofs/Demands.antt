@@ -13,7 +13,7 @@ use Rattle.accept.specs.Check.{accepted}
 use Rattle.report.specs.Sizes.{max_width, record_words}
 use Rattle.report.specs.Records.{lowest, fails_at, report_of, records_of}
 use Rattle.report.specs.Join.{Tree, none, leaf, both, stands, join_tree}
-use Rattle.report.specs.declared.BatchReport.TheVariants as B
+use Rattle.report.specs.declared.Report.TheVariants as B
 use Rattle.report.proofs.Lowests.{lowest_ext}
 use Rattle.rows.specs.Column.{Col, column, tabulate}
 use Rattle.rows.proofs.Stripes.{column_at_lem, column_past, length-tabulate, get_d_tabulate}

@@ -16,7 +16,7 @@ use Rattle.report.specs.Sizes.{record_words}
 use Rattle.report.specs.Position.{batch}
 use Rattle.report.specs.Records.{lowest}
 use Rattle.report.specs.Join.{Tree, none, leaf, both, stands, join_tree}
-use Rattle.report.specs.declared.BatchReport.TheVariants as B
+use Rattle.report.specs.declared.Report.TheVariants as B
 use Rattle.rows.specs.Column.{column, store, tabulate, on_stripe}
 use Rattle.fill.specs.Meaning.{run_col, violations_from}
 use Rattle.fill.specs.Run.{verdict_of, lowest_of, answer_of, values_of, buffer_of}

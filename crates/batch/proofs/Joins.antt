@@ -12,8 +12,8 @@ use Rattle.report.specs.Records.{words}
 use Rattle.report.specs.Join.{Standing, stands, refused, meet}
 use Rattle.report.specs.declared.record.Failure.{Failure}
 use Rattle.report.specs.declared.BatchPosition.{BatchPosition}
-use Rattle.report.specs.declared.BatchReport.{BatchReport}
-use Rattle.report.specs.declared.BatchReport.TheVariants as B
+use Rattle.report.specs.declared.Report.{Report}
+use Rattle.report.specs.declared.Report.TheVariants as B
 use Rattle.batch.specs.Batch.{kept_by, read}
 use Rattle.batch.specs.Demands.{Tells}
 
@@ -69,13 +69,13 @@ module _ (cap : ℕ) (v : ℕ → List Failure) where
   nonempty c n e h z = omega (arith, ap length z)
 
   -- the same columns, said otherwise
-  pub tells_as : (P Q : ℕ → Type 0) → ((c : ℕ) → P c → Q c) → ((c : ℕ) → Q c → P c) → (r : BatchReport) (ws : List ℕ) → Tells P cap v r ws → Tells Q cap v r ws
+  pub tells_as : (P Q : ℕ → Type 0) → ((c : ℕ) → P c → Q c) → ((c : ℕ) → Q c → P c) → (r : Report BatchPosition) (ws : List ℕ) → Tells P cap v r ws → Tells Q cap v r ws
   tells_as P Q to from B.Clean ws h = (λ c q. h.0 c (from c q), h.1)
   tells_as P Q to from (B.Failing p t k) ws h =
       record { among = to p.0 h.among; lower = λ c q l. h.lower c (from c q) l; exact = h.exact; fails = h.fails; smaller = h.smaller; first_failures = h.first_failures }
 
   -- one report, and one list of records
-  pub tells_only : (P : ℕ → Type 0) (r s : BatchReport) (ws xs : List ℕ) → Tells P cap v r ws → Tells P cap v s xs → (r ≡ s) × (ws ≡ xs)
+  pub tells_only : (P : ℕ → Type 0) (r s : Report BatchPosition) (ws xs : List ℕ) → Tells P cap v r ws → Tells P cap v s xs → (r ≡ s) × (ws ≡ xs)
   tells_only P B.Clean B.Clean ws xs h k = (refl, h.1 ∙ sym k.1)
   tells_only P B.Clean (B.Failing q u l) ws xs h k = absurd (nonempty q.0 u k.exact k.fails (h.0 q.0 k.among))
   tells_only P (B.Failing p t m) B.Clean ws xs h k = absurd (nonempty p.0 t h.exact h.fails (k.0 p.0 h.among))
@@ -101,7 +101,7 @@ module _ (cap : ℕ) (v : ℕ → List Failure) where
   Shown P (stands r x) = Tells P cap v r (take (kept_by r * record_words) x)
   Shown P (refused e) = ⊥
 
-  pub shown_only : (P : ℕ → Type 0) (m : Standing) (r : BatchReport) (ws : List ℕ) → Shown P m → Tells P cap v r ws → read m ≡ stands r ws
+  pub shown_only : (P : ℕ → Type 0) (m : Standing) (r : Report BatchPosition) (ws : List ℕ) → Shown P m → Tells P cap v r ws → read m ≡ stands r ws
   shown_only P (stands s x) r ws h k = let e = tells_only P s r _ ws h k in ap₂ stands e.0 e.1
   shown_only P (refused e) r ws h k = absurd h
 

@@ -11,8 +11,9 @@ use Rattle.report.specs.Sizes.{max_width, record_words}
 use Rattle.report.specs.Position.{batch}
 use Rattle.report.specs.Records.{words, Lowest, clean, at, lowest, report_of, records_of}
 use Rattle.report.specs.declared.record.Failure.{Failure}
-use Rattle.report.specs.declared.BatchReport.{BatchReport}
-use Rattle.report.specs.declared.BatchReport.TheVariants as B
+use Rattle.report.specs.declared.BatchPosition.{BatchPosition}
+use Rattle.report.specs.declared.Report.{Report}
+use Rattle.report.specs.declared.Report.TheVariants as B
 use Rattle.report.proofs.Lowests.{IsLowest, lowest_is}
 use Rattle.report.proofs.Noted.{length-words}
 use Rattle.fill.specs.Run.{reports}
@@ -52,7 +53,7 @@ leaf_of b s = after_run s.stripe.first (reports (report_of b.cap (low_in b (stri
 
 -- it is no refusal, and it tells of the stripe's columns
 pub record HandsIn (b : Batch) (s : Share) : Type 0 where
-  pub report : BatchReport
+  pub report : Report BatchPosition
   pub after : List ℕ
   pub is : leaf_of b s ≡ handed report after
   pub tells : Tells (In (stripe_of s)) b.cap (violations_of b) report (take (kept_by report * record_words) after)

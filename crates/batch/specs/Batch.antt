@@ -1,14 +1,13 @@
 -- Stripes run one after the other, what each hands in, and what is read of the join of all that. Assumes nothing.
-use Rattle.std.specs.Prelude.{ℕ, ◌*◌, List, [], ◌∷◌, ◌++◌, take}
+use Rattle.std.specs.Prelude.{ℕ, ◌*◌, List, [], ◌∷◌, ◌++◌, take, Result, Ok, Err}
 use Rattle.refusal.specs.declared.Refusal.{Refusal}
 use Rattle.bytecode.specs.Program.{program_of}
 use Rattle.report.specs.Sizes.{record_words}
 use Rattle.report.specs.Join.{raised, Tree, none, leaf, both, Standing, stands, refused}
 use Rattle.report.specs.declared.record.Failure.{Failure}
-use Rattle.report.specs.declared.BatchReport.{BatchReport}
-use Rattle.report.specs.declared.BatchReport.TheVariants as B
-use Rattle.report.specs.declared.Raised.{Raised}
-use Rattle.report.specs.declared.Raised.TheVariants as R
+use Rattle.report.specs.declared.BatchPosition.{BatchPosition}
+use Rattle.report.specs.declared.Report.{Report}
+use Rattle.report.specs.declared.Report.TheVariants as B
 use Rattle.rows.specs.Column.{Col, column, tabulate}
 use Rattle.fill.specs.Meaning.{run_col, violations}
 use Rattle.fill.specs.Run.{Answer, reports, refuses, Call, call, answer_of, values_of, buffer_of}
@@ -33,13 +32,13 @@ array_after b (s ∷ ss) values = array_after b ss (values_of (call_of b s value
 -- ---- what the runs hand in: a report raised by the stripe's start and the buffer with its records, unless the run or the raise is refused
 
 pub data HandedIn : Type 0 where
-  handed : BatchReport → List ℕ → HandedIn
+  handed : Report BatchPosition → List ℕ → HandedIn
   run_refused : ℕ → ℕ → HandedIn
   raise_refused : Refusal → HandedIn
 
-abbrev pub after_raise : Raised → List ℕ → HandedIn
-after_raise (R.Report report) buffer = handed report buffer
-after_raise (R.Refused r) buffer = raise_refused r
+abbrev pub after_raise : Result (Report BatchPosition) Refusal → List ℕ → HandedIn
+after_raise (Ok report) buffer = handed report buffer
+after_raise (Err r) buffer = raise_refused r
 
 abbrev pub after_run : ℕ → Answer → List ℕ → HandedIn
 after_run start (reports report) buffer = after_raise (raised start report) buffer
@@ -67,7 +66,7 @@ leaves none = []
 leaves (leaf report buffer) = handed report buffer ∷ []
 leaves (both t u) = leaves t ++ leaves u
 
-abbrev pub kept_by : BatchReport → ℕ
+abbrev pub kept_by : Report BatchPosition → ℕ
 kept_by B.Clean = 0
 kept_by (B.Failing p total kept) = kept
 

@@ -5,8 +5,9 @@ use Rattle.accept.specs.Check.{accepted}
 use Rattle.report.specs.Records.{words, fails_at, report_of, records_of}
 use Rattle.report.specs.Join.{Tree, join_tree, stands}
 use Rattle.report.specs.declared.record.Failure.{Failure}
-use Rattle.report.specs.declared.BatchReport.{BatchReport}
-use Rattle.report.specs.declared.BatchReport.TheVariants as B
+use Rattle.report.specs.declared.BatchPosition.{BatchPosition}
+use Rattle.report.specs.declared.Report.{Report}
+use Rattle.report.specs.declared.Report.TheVariants as B
 use Rattle.rows.specs.Column.{column, tabulate}
 use Rattle.fill.specs.Run.{reports, verdict_of, answer_of, values_of, buffer_of}
 use Rattle.batch.specs.Cut.{Batch, Share, share}
@@ -24,7 +25,7 @@ pub record NamesLowest (Among : ℕ → Type 0) (cap : ℕ) (v : ℕ → List Fa
   pub first_failures : records ≡ words (take kept (v p))
 
 -- clean: none of them fails
-abbrev pub Tells : (ℕ → Type 0) → ℕ → (ℕ → List Failure) → BatchReport → List ℕ → Type 0
+abbrev pub Tells : (ℕ → Type 0) → ℕ → (ℕ → List Failure) → Report BatchPosition → List ℕ → Type 0
 Tells Among cap v B.Clean records = ((c : ℕ) → Among c → v c ≡ []) × (records ≡ [])
 Tells Among cap v (B.Failing p total kept) records = NamesLowest Among cap v p.0 total kept records
 
@@ -49,7 +50,7 @@ pub record CutAnyhow (b : Batch) (buffer : List ℕ) (ss : List Share) : Type 0 
   pub columns : (c : ℕ) → c < b.width → column b.rows b.width (array_after b ss b.values) c ≡ filled_of b c
   pub parcels : (c : ℕ) → c < b.width → column b.rows b.width (array_after b ss b.values) c ≡ column b.rows 1 (values_of (alone_call b buffer c)) 0
   -- what the whole batch in one stripe hands in
-  pub report : BatchReport
+  pub report : Report BatchPosition
   pub records : List ℕ
   pub whole_stripe : (after : List ℕ) × (hand_in b (share 0 b.width buffer) b.values ≡ handed report after) × (read (stands report after) ≡ stands report records)
   -- it names the lowest failing parcel, or none if no parcel fails

@@ -1,6 +1,6 @@
 -- Document 01, "Examples": the marked cases and the sentences behind them, as one table. Each row has the definitions at the example's
 -- input, and what the document says, as numbers. proofs/Starred.antt has the one statement. Assumes nothing.
-use Rattle.std.specs.Prelude.{ℕ, ◌-◌, ◌^◌, ◌≡◌, List, [], ◌∷◌, ◌++◌, take}
+use Rattle.std.specs.Prelude.{ℕ, ◌-◌, ◌^◌, ◌≡◌, List, [], ◌∷◌, ◌++◌, take, Result, Ok, Err}
 use Rattle.word.specs.Arithmetic.{sum_word, carry_word, difference_word, borrow_word, high_word, low_word}
 use Rattle.shift.specs.Variant.{shift_word}
 use Rattle.shift.specs.declared.ShiftVariant.TheVariants.{Sar, Sll32, Sra32}
@@ -11,11 +11,10 @@ use Rattle.builder.specs.Call.{laid, band, bxor_multi}
 use Rattle.accept.specs.Check.{Verdict, accepted, refusal, check_of}
 use Rattle.report.specs.Told.{Told as Said, stripe_values, raised_told, joined_told}
 use Rattle.report.specs.Join.{raised, joined}
-use Rattle.report.specs.declared.StripeReport.TheVariants as S
-use Rattle.report.specs.declared.BatchReport.{BatchReport}
-use Rattle.report.specs.declared.BatchReport.TheVariants as B
-use Rattle.report.specs.declared.Raised.{Raised}
-use Rattle.report.specs.declared.Raised.TheVariants as R
+use Rattle.report.specs.declared.BatchPosition.{BatchPosition}
+use Rattle.report.specs.declared.Report.{Report}
+use Rattle.report.specs.declared.Report.TheVariants as B
+use Rattle.refusal.specs.declared.Refusal.{Refusal}
 use Rattle.fill.specs.Run.{Answer, reports, refuses, Call, call, answer_of, buffer_of}
 use Rattle.scratch.specs.Answer.{Told, slots_after}
 use Rattle.scratch.specs.Answer as Slots
@@ -56,13 +55,13 @@ abbrev pub numbers_of : Said → List ℕ
 numbers_of t = t.number ∷ t.values
 
 -- a run's report raised by its stripe's start; clean where either is refused, which a row of its own shows not to be
-abbrev pub report_of : Raised → BatchReport
-report_of (R.Report b) = b
-report_of (R.Refused r) = B.Clean
+abbrev pub report_of : Result (Report BatchPosition) Refusal → Report BatchPosition
+report_of (Ok b) = b
+report_of (Err r) = B.Clean
 
-abbrev pub raised_run : ℕ → Answer → Raised
+abbrev pub raised_run : ℕ → Answer → Result (Report BatchPosition) Refusal
 raised_run start (reports r) = raised start r
-raised_run start (refuses number offset) = raised start S.Clean
+raised_run start (refuses number offset) = raised start B.Clean
 
 -- ---- the table
 
@@ -83,10 +82,10 @@ zeros first count =
     call (encode (make 0x62 [] (0 ∷ []) (11 ∷ [])) ++ encode (make 0x62 [] (1 ∷ []) (12 ∷ []))) 2 4 first count 1
     (0 ∷ 0 ∷ 9 ∷ 0 ∷ 0 ∷ 4 ∷ 0 ∷ 0 ∷ []) (7 ∷ 7 ∷ 7 ∷ [])
 
-abbrev pub left : Raised
+abbrev pub left : Result (Report BatchPosition) Refusal
 left = raised_run 0 (answer_of (zeros 0 2))
 
-abbrev pub right : Raised
+abbrev pub right : Result (Report BatchPosition) Refusal
 right = raised_run 2 (answer_of (zeros 2 2))
 
 abbrev pub table : List Row

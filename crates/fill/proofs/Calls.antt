@@ -8,17 +8,18 @@ use native.Mathlib.Decide.{dec_lt}
 use native.Mathlib.Omega.{arith}
 use lib.Dec.{eqb, leb, ltb}
 use borrow.Author.Tests.{not-false, leb-true, eqb-true, lt-ltb, le-ltb, lt-leb, le-leb}
+use Rattle.std.specs.Prelude.{Result, Ok}
 use Rattle.common.proofs.Bools.{both}
+use Rattle.refusal.specs.declared.RefusedAt.{RefusedAt}
 use Rattle.bytecode.specs.Program.{program_of}
 use Rattle.accept.specs.Check.{accepted, refusal, check_of}
 use Rattle.report.specs.Sizes.{max_width, max_cap, record_words}
 use Rattle.report.specs.Records.{report_of, records_of}
-use Rattle.report.specs.declared.StripeReport.{StripeReport}
+use Rattle.report.specs.declared.LocalPosition.{LocalPosition}
+use Rattle.report.specs.declared.Report.{Report}
 use Rattle.rows.specs.Column.{on_stripe}
 use Rattle.fill.specs.Meaning.{run_col}
 use Rattle.fill.specs.Run.{reports, refuses, answer, Call, shape_broken, cap_broken, bad_shape, bad_cap, verdict_of, lowest_of, answer_of, values_of, buffer_of}
-use Rattle.fill.specs.declared.Ran.{Ran}
-use Rattle.fill.specs.declared.Ran.TheVariants as R
 
 -- ---- 1 and 2 exactly when
 
@@ -68,12 +69,12 @@ module _ (c : Call) where
   by_check e f = rw (e, f)
 
   -- a refusal leaves every lent word as it was
-  pub run_refused : (r : Ran) (n at : ℕ) → verdict_of c ≡ refusal n at → answer r ≡ refuses n at → (answer r ≡ answer_of c) × ((c.values ≡ values_of c) × (c.report ≡ buffer_of c))
+  pub run_refused : (r : Result (Report LocalPosition) RefusedAt) (n at : ℕ) → verdict_of c ≡ refusal n at → answer r ≡ refuses n at → (answer r ≡ answer_of c) × ((c.values ≡ values_of c) × (c.report ≡ buffer_of c))
   unfolding answer_of values_of buffer_of
   run_refused r n at e a = (rw e a, (rw e, rw e))
 
-  pub run_accepted : {r : StripeReport} {values report : List ℕ} → verdict_of c ≡ accepted → r ≡ report_of c.cap (lowest_of c)
+  pub run_accepted : {r : Report LocalPosition} {values report : List ℕ} → verdict_of c ≡ accepted → r ≡ report_of c.cap (lowest_of c)
       → values ≡ on_stripe (run_col (program_of c.code)) c.rows c.width c.first c.count c.values → report ≡ records_of c.cap (lowest_of c) c.report
-      → (answer (R.Report r) ≡ answer_of c) × ((values ≡ values_of c) × (report ≡ buffer_of c))
+      → (answer (Ok r) ≡ answer_of c) × ((values ≡ values_of c) × (report ≡ buffer_of c))
   unfolding answer_of values_of buffer_of
   run_accepted e a v w = (rw e (ap reports a), (rw e v, rw e w))

@@ -4,12 +4,12 @@ use mathlib.Core.List.{List}
 use Prim.Native.Nat.{ℕ, ◌+◌, ◌*◌, ◌≤◌}
 use native.Mathlib.Omega.{arith}
 use lib.ListN.{length, get_or, drop}
+use Rattle.std.specs.Prelude.{Ok}
 use Rattle.bytecode.specs.Opcode.{shape_of}
 use Rattle.bytecode.specs.Layout.{word_at, size_as}
 use Rattle.bytecode.specs.Instruction.{Inst, inst}
 use Rattle.bytecode.specs.Parse.{whole, parse, read_as}
 use Rattle.bytecode.specs.declared.opcode.Shape.{Shape}
-use Rattle.bytecode.specs.declared.layout.Size.TheVariants.{Bytes}
 use Rattle.bytecode.specs.declared.instruction.Instruction.{Instruction}
 use Rattle.bytecode.specs.declared.instruction.Instruction.TheVariants as I
 use Rattle.bytecode.proofs.Words.{length-words}
@@ -19,7 +19,7 @@ use Rattle.fill.specs.Working.{Held}
 -- what was read, by the opcode's shape
 record Shaped (s : List ℕ) (i : Inst) (n : ℕ) (sh : Shape) : Type 0 where
   is_read : i ≡ read_as sh i.op s
-  size : size_as sh s ≡ Bytes n
+  size : size_as sh s ≡ Ok n
   within : n ≤ length s
 
 shaped : (s : List ℕ) (i : Inst) (n : ℕ) → parse s ≡ whole i n → Shaped s i n (shape_of i.op)

@@ -12,7 +12,8 @@ use Rattle.common.proofs.Below.{below_head, below_tail}
 use Rattle.shift.specs.Variant.{width_of, variant_of, bad_amount}
 use Rattle.shift.proofs.Codes.{let_by}
 use Rattle.bytecode.specs.Layout.{words}
-use Rattle.bytecode.specs.Instruction.{Inst, inst}
+use Rattle.bytecode.specs.Instruction.{inst}
+use Rattle.bytecode.specs.declared.instruction.Instruction.{Instruction}
 use Rattle.bytecode.specs.declared.instruction.Instruction.TheVariants as I
 use Rattle.bytecode.proofs.Words.{length-words}
 use Rattle.accept.specs.Sound.{Sound, Listed, divide, leading_zeros, mirror, FittingAmount}
@@ -26,22 +27,11 @@ pub rows_in : (s : Stripe) {n : ℕ} → n ≡ s.rows * s.width → (rs : List �
 rows_in s e [] b = tt
 rows_in s e (r ∷ rs) b = (in_row s e (below_head s.rows r rs b), rows_in s e rs (below_tail s.rows r rs b))
 
--- the destinations and the sources of a checked instruction
-pub registers_in : (s : Stripe) {n : ℕ} → n ≡ s.rows * s.width → (i : Inst) → Sound s.rows i → InRows s n i.dests × InRows s n i.sources
-registers_in s e i S = (rows_in s e i.dests S.dests_below, rows_in s e i.sources S.sources_below)
-
--- as the row loops ask for them, one destination or two and two sources or three; of two the second is the third as well
-pub one_of_two : {W A B C : Type 0} → W × ((A × Unit {0}) × (B × (C × Unit {0}))) → W × ((A × B) × (C × C))
-one_of_two (w, r) = (w, ((r.0.0, r.1.0), (r.1.1.0, r.1.1.0)))
-
-pub one_of_three : {W A B C D : Type 0} → W × ((A × Unit {0}) × (B × (C × (D × Unit {0})))) → W × ((A × B) × (C × D))
-one_of_three (w, r) = (w, ((r.0.0, r.1.0), (r.1.1.0, r.1.1.1.0)))
-
-pub two_of_two : {W A B C D : Type 0} → W × ((A × (B × Unit {0})) × (C × (D × Unit {0}))) → W × ((A × B) × (C × D × D))
-two_of_two (w, r) = (w, ((r.0.0, r.0.1.0), (r.1.0, r.1.1.0, r.1.1.0)))
-
-pub two_of_three : {W A B C D E : Type 0} → W × ((A × (B × Unit {0})) × (C × (D × (E × Unit {0})))) → W × ((A × B) × (C × D × E))
-two_of_three (w, r) = (w, ((r.0.0, r.0.1.0), (r.1.0, r.1.1.0, r.1.1.1.0)))
+-- the destinations and the sources of a checked instruction, which is j, as the row loops ask for them
+pub registers_in : (s : Stripe) (n : ℕ) (code : List ℕ) (i j : Instruction) → i ≡ j → n ≡ s.rows * s.width → Sound s.rows (inst code i)
+    → InRows s n (inst code j).dests × InRows s n (inst code j).sources
+registers_in s n code i j is whole sound =
+    let S = rw is at sound in (rows_in s whole (inst code j).dests S.dests_below, rows_in s whole (inst code j).sources S.sources_below)
 
 -- ---- a shift's amount
 
@@ -93,10 +83,10 @@ module _ {rows : ℕ} (code : List ℕ) (id d i o : ℕ) (s : Sound rows (inst c
       λ j. I.Hint (l.0 j) (z j) i (l.2 j)
 
 -- the inputs and the outputs of hint 3 as parts of the bytes
-pub inputs_part : (code : List ℕ) (k n : ℕ) → n ≡ k → words (take (21 + 4 * n - 21) (drop 21 code)) 0 n ≡ words code 21 k
-inputs_part code k n e = words_of_part code (21 + 4 * n - 21) 21 0 n (omega arith) ∙ ap (words code 21) e
+pub inputs_part : (code : List ℕ) (k : ℕ) → words (take (21 + 4 * k - 21) (drop 21 code)) 0 k ≡ words code 21 k
+inputs_part code k = words_of_part code (21 + 4 * k - 21) 21 0 k (omega arith)
 
-pub outputs_part : (code : List ℕ) (k n : ℕ) → n ≡ k → words (take (21 + 8 * n - (21 + 4 * n)) (drop (21 + 4 * n) code)) 0 n ≡ words code (17 + 4 * (1 + k)) k
-outputs_part code k n e =
-    let place : 21 + 4 * n + 0 ≡ 17 + 4 * (1 + k) = omega arith in
-    words_of_part code (21 + 8 * n - (21 + 4 * n)) (21 + 4 * n) 0 n (omega arith) ∙ (λ j. words code (place j) (e j))
+pub outputs_part : (code : List ℕ) (k : ℕ) → words (take (21 + 8 * k - (21 + 4 * k)) (drop (21 + 4 * k) code)) 0 k ≡ words code (17 + 4 * (1 + k)) k
+outputs_part code k =
+    let place : 21 + 4 * k + 0 ≡ 17 + 4 * (1 + k) = omega arith in
+    words_of_part code (21 + 8 * k - (21 + 4 * k)) (21 + 4 * k) 0 k (omega arith) ∙ ap (λ at. words code at k) place

@@ -7,17 +7,19 @@ use native.Mathlib.Omega.{arith}
 use lib.ListN.{length}
 use lib.Dec.{eqb, leb}
 use borrow.Author.Tests.{not-true, leb-false, eqb-false, le-leb, eq-eqb}
+use Rattle.std.specs.Prelude.{Result, Ok, Err}
 use Rattle.refusal.proofs.Numbers.{number_names_one}
+use Rattle.refusal.specs.declared.RefusedAt.{RefusedAt}
 use Rattle.bytecode.specs.Layout.{AreBytes}
 use Rattle.accept.specs.Check.{accepted, refusal, check_of}
 use Rattle.accept.proofs.Refusals as check
 use Rattle.accept.proofs.Soundness.{clash}
 use Rattle.report.specs.Sizes.{max_width, max_cap, record_words}
+use Rattle.report.specs.declared.LocalPosition.{LocalPosition}
+use Rattle.report.specs.declared.Report.{Report}
 use Rattle.fill.specs.Run.{answer, Call, bad_shape, bad_cap, verdict_of}
 use Rattle.fill.specs.Faults.{ShapeFault, CapFault, Refused}
 use Rattle.fill.specs.Faults as F
-use Rattle.fill.specs.declared.Ran.{Ran}
-use Rattle.fill.specs.declared.Ran.TheVariants as R
 use Rattle.fill.proofs.Calls.{Shape, shape_kept, cap_kept, by_shape, by_cap, by_check}
 
 -- ---- the tests and the rules
@@ -117,13 +119,13 @@ fit_accepted c f = by_check c shape_ok cap_ok ∙ f.program
     cap_ok : bad_cap c ≡ false
     cap_ok = rw (le-leb c.cap max_cap f.few, eq-eqb (length c.report) (c.cap * record_words) f.buffer)
 
--- ---- one answer: what `run` promises of its answer leaves one value of the enum
+-- ---- one answer: what `run` promises of its answer leaves one value of its type
 
-pub one-ran : (r s : Ran) → answer r ≡ answer s → r ≡ s
-one-ran (R.Report a) (R.Report b) e = let i : a ≡ b = cc in ap R.Report i
-one-ran (R.Report a) (R.Refused q o) e = cc
-one-ran (R.Refused p n) (R.Report b) e = cc
-one-ran (R.Refused p n) (R.Refused q o) e =
-    let i : p ≡ q = number_names_one p q (cc) in
-    let j : n ≡ o = cc in
-    λ k. R.Refused (i k) (j k)
+pub one-ran : (r s : Result (Report LocalPosition) RefusedAt) → answer r ≡ answer s → r ≡ s
+one-ran (Ok a) (Ok b) e = let i : a ≡ b = cc in ap Ok i
+one-ran (Ok a) (Err q) e = cc
+one-ran (Err p) (Ok b) e = cc
+one-ran (Err p) (Err q) e =
+    let i : p.refusal ≡ q.refusal = number_names_one p.refusal q.refusal (cc) in
+    let j : p.offset ≡ q.offset = cc in
+    λ k. Err (record { refusal = i k; offset = j k })

@@ -8,6 +8,7 @@ use native.Mathlib.Decide.{ℕ_discrete, dec_lt}
 use native.Mathlib.Omega.{arith}
 use lib.ListN.{get_or}
 use borrow.Author.Tests.{eq-eqb, ne_eqb, lt-ltb, le-ltb}
+use Rattle.std.specs.Prelude.{Some, None}
 use Rattle.common.specs.Lists.{all_below}
 use Rattle.common.proofs.Below.{below_head, below_tail}
 use Rattle.bytecode.specs.Instruction.{inst}
@@ -17,14 +18,14 @@ use Rattle.accept.specs.Sound.{Sound}
 use Rattle.report.specs.Records.{Lowest, clean, at, lowest}
 use Rattle.report.specs.Working.{Shows, note_at}
 use Rattle.report.specs.declared.record.Failure.{Failure}
-use Rattle.report.specs.declared.noting.Low.{Low}
+use Rattle.report.specs.declared.noting.Noting.{Noting}
 use Rattle.report.proofs.Lowests.{IsLowest, lowest_is, lowest_only, lowest_ext, cons-nil, snoc_nil}
 use Rattle.rows.specs.Column.{Col}
 use Rattle.rows.specs.Working.{InRow}
 use Rattle.rows.specs.declared.Stripe.{Stripe}
 use Rattle.rows.proofs.Stripes.{column_at_lem}
 use Rattle.fill.specs.Meaning.{noted}
-use Rattle.fill.specs.Working.{claim_of, claimed, Reads, column_of, First, Judged}
+use Rattle.fill.specs.Working.{claim_of, claimed, Reads, column_of, Never, First, Judged}
 
 -- ---- what an instruction claims
 
@@ -74,12 +75,6 @@ claim_reads bytes rows i = (claims bytes i).1 rows
 pub at_column : (s : Stripe) (xs : List ℕ) (k r : ℕ) {n : ℕ} → InRow s n r → get_or xs (r * s.width + s.first + k) 0 ≡ column_of s xs k r
 at_column s xs k r h = rw add_assoc (sym (column_at_lem s.width xs (s.first + k) h.0))
 
-pub first_none : (p : ℕ → Bool) (n k : ℕ) → k ≡ n → ((j : ℕ) → j < k → p j ≡ false) → First p n k
-first_none p n k e none = record { within = omega arith; before = none; found = λ h. absurd (omega arith) }
-
-pub first_found : (p : ℕ → Bool) (n k : ℕ) → k < n → ((j : ℕ) → j < k → p j ≡ false) → p k ≡ true → First p n k
-first_found p n k h none here = record { within = omega arith; before = none; found = λ l. here }
-
 -- ---- one assertion more: u has a record at each position where p is true
 
 module _ (v : ℕ → List Failure) (p : ℕ → Bool) (f : ℕ → Failure) (n : ℕ) where
@@ -92,41 +87,34 @@ module _ (v : ℕ → List Failure) (p : ℕ → Bool) (f : ℕ → Failure) (n 
   more_at : (k : ℕ) → p k ≡ true → w k ≡ v k ++ f k ∷ []
   more_at k e = ap (λ b. v k ++ cond b (f k ∷ []) []) e
 
-  lowest_same : (r : ℕ) → First p n r → r ≡ n → lowest w n ≡ lowest v n
-  lowest_same r s e = lowest_ext w v n (λ k l. same_at k (s.before k (omega arith)))
+  lowest_same : Never p n → lowest w n ≡ lowest v n
+  lowest_same never = lowest_ext w v n (λ k l. same_at k (never k l))
 
-  lowest_note : (r : ℕ) → First p n r → r < n → lowest w n ≡ note_at r (f r) (lowest v n)
-  lowest_note r s r<n = lowest_only w n (lowest w n) (note_at r (f r) (lowest v n)) (lowest_is w n) (go (lowest v n) (lowest_is v n))
+  lowest_note : (r : ℕ) → First p n (Some r) → lowest w n ≡ note_at r (f r) (lowest v n)
+  lowest_note r (r<n, before, found) = lowest_only w n (lowest w n) (note_at r (f r) (lowest v n)) (lowest_is w n) (go (lowest v n) (lowest_is v n))
     where
       fresh : v r ≡ [] → ((k : ℕ) → k < r → v k ≡ []) → IsLowest w n (at r (f r ∷ []))
-      fresh e b = (r<n, more_at r (s.found r<n) ∙ ap (λ l. l ++ f r ∷ []) e, cons-nil (f r) [], λ k l. same_at k (s.before k l) ∙ b k l)
+      fresh e b = (r<n, more_at r found ∙ ap (λ l. l ++ f r ∷ []) e, cons-nil (f r) [], λ k l. same_at k (before k l) ∙ b k l)
 
       go : (l : Lowest) → IsLowest v n l → IsLowest w n (note_at r (f r) l)
       go clean h = fresh (h r r<n) (λ k l. h k (omega arith))
       go (at q fs) h = pick (dec_lt q r) (ℕ_discrete q r)
         where
           pick : Dec (q < r) → Dec (q ≡ r) → IsLowest w n (note_at r (f r) (at q fs))
-          pick (yes l) d = rw (lt-ltb q r l) (h.0, same_at q (s.before q l) ∙ h.1, h.2, λ k l'. same_at k (s.before k (omega arith)) ∙ h.3 k l')
-          pick (no a) (yes e) = rw (le-ltb q r (omega arith), eq-eqb q r e) (r<n, more_at r (s.found r<n) ∙ ap (λ l. l ++ f r ∷ []) (ap v (sym e) ∙ h.1), snoc_nil fs (f r), λ k l. same_at k (s.before k l) ∙ h.3 k (omega arith))
+          pick (yes l) d = rw (lt-ltb q r l) (h.0, same_at q (before q l) ∙ h.1, h.2, λ k l'. same_at k (before k (omega arith)) ∙ h.3 k l')
+          pick (no a) (yes e) = rw (le-ltb q r (omega arith), eq-eqb q r e) (r<n, more_at r found ∙ ap (λ l. l ++ f r ∷ []) (ap v (sym e) ∙ h.1), snoc_nil fs (f r), λ k l. same_at k (before k l) ∙ h.3 k (omega arith))
           pick (no a) (no b) = rw (le-ltb q r (omega arith), ne_eqb q r b) (fresh (h.3 r (omega arith)) (λ k l. h.3 k (omega arith)))
 
 -- ---- judging, by the first column that fails
 
-module _ (cap : ℕ) (p : ℕ → Bool) (f : ℕ → Failure) (count : ℕ) where
-  pub judged_none : {low : Low} {records : List ℕ} (r : ℕ) → First p count r → r ≡ count → Judged cap (λ k. cond (p k) (f k ∷ []) []) count low records low records
-  judged_none {low} {records} r h e v shown = subst (λ l. Shows cap l low records) (sym (lowest_same v p f count r h e)) shown
+module _ (p : ℕ → Bool) (f : ℕ → Failure) (count : ℕ) where
+  pub judged_none : {noting : Noting} → First p count None → Judged (λ k. cond (p k) (f k ∷ []) []) count noting noting
+  judged_none {noting} never v shown = subst (λ l. Shows l noting) (sym (lowest_same v p f count never)) shown
 
-  pub judged_note : {low low' : Low} {records records' : List ℕ} (r : ℕ) → First p count r → r < count
-      → ((l : Lowest) → Shows cap l low records → Shows cap (note_at r (f r) l) low' records') → Judged cap (λ k. cond (p k) (f k ∷ []) []) count low records low' records'
-  judged_note {low} {low'} {records} {records'} r h l note v shown =
-      subst (λ x. Shows cap x low' records') (sym (lowest_note v p f count r h l)) (note (lowest v count) shown)
-
--- nothing is claimed
-pub judged_nothing : (cap count : ℕ) {low : Low} {records : List ℕ} → Judged cap (λ k. []) count low records low records
-judged_nothing cap count {low} {records} v shown =
-    subst (λ l. Shows cap l low records) (lowest_ext v (λ k. v k ++ []) count (λ k l. sym (append-nil (v k)))) shown
+  pub judged_note : {noting noting' : Noting} (r : ℕ) → First p count (Some r)
+      → ((l : Lowest) → Shows l noting → Shows (note_at r (f r) l) noting') → Judged (λ k. cond (p k) (f k ∷ []) []) count noting noting'
+  judged_note {noting} {noting'} r h note v shown = subst (λ l. Shows l noting') (sym (lowest_note v p f count r h)) (note (lowest v count) shown)
 
 -- the records by another name
-pub judged_as : (cap count : ℕ) {u w : ℕ → List Failure} {low low' : Low} {records records' : List ℕ} → ((k : ℕ) → u k ≡ w k)
-    → Judged cap u count low records low' records' → Judged cap w count low records low' records'
-judged_as cap count {u} {w} {low} {low'} {records} {records'} e h = subst (λ x. Judged cap x count low records low' records') (fun_ext e) h
+pub judged_as : (count : ℕ) {u w : ℕ → List Failure} {noting noting' : Noting} → ((k : ℕ) → u k ≡ w k) → Judged u count noting noting' → Judged w count noting noting'
+judged_as count {u} {w} {noting} {noting'} e h = subst (λ x. Judged x count noting noting') (fun_ext e) h

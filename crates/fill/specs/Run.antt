@@ -1,28 +1,28 @@
 -- What a run over a stripe answers and leaves: document 01, "Sizes", "Numbered refusals", "Assertions and reports". Assumes nothing.
-use Rattle.std.specs.Prelude.{ℕ, ◌+◌, ◌*◌, Bool, cond, not, ◌&&◌, List, length, eqb, leb}
+use Rattle.std.specs.Prelude.{ℕ, ◌+◌, ◌*◌, Bool, cond, not, ◌&&◌, List, length, eqb, leb, Result, Ok, Err}
 use Rattle.refusal.specs.Number.{number_of}
 use Rattle.refusal.specs.declared.Refusal.TheVariants.{BadShape, BadCap}
+use Rattle.refusal.specs.declared.RefusedAt.{RefusedAt}
 use Rattle.bytecode.specs.Program.{program_of}
 use Rattle.accept.specs.Check.{Verdict, accepted, refusal, check_of}
 use Rattle.report.specs.Sizes.{max_width, max_cap, record_words}
 use Rattle.report.specs.Records.{Lowest, lowest, report_of, records_of}
-use Rattle.report.specs.declared.StripeReport.{StripeReport}
+use Rattle.report.specs.declared.LocalPosition.{LocalPosition}
+use Rattle.report.specs.declared.Report.{Report}
 use Rattle.rows.specs.Column.{column, on_stripe}
 use Rattle.fill.specs.Meaning.{run_col, violations}
-use Rattle.fill.specs.declared.Ran.{Ran}
-use Rattle.fill.specs.declared.Ran.TheVariants as R
 
 -- ---- the answer
 
 -- a report, or a refusal by its number with the offset that it carries, 0 where it carries none
 pub data Answer : Type 0 where
-  reports : StripeReport → Answer
+  reports : Report LocalPosition → Answer
   refuses : ℕ → ℕ → Answer
 
 -- what each case of the run's answer says
-abbrev pub answer : Ran → Answer
-answer (R.Report r) = reports r
-answer (R.Refused r at) = refuses (number_of r) at
+abbrev pub answer : Result (Report LocalPosition) RefusedAt → Answer
+answer (Ok r) = reports r
+answer (Err r) = refuses (number_of r.refusal) r.offset
 
 -- ---- what a run is asked
 

@@ -1,18 +1,17 @@
 -- Working definitions: what the contracts of the run's inner functions cite. No reader of document 01 needs them. Assumes nothing.
-use Rattle.std.specs.Prelude.{ℕ, ◌+◌, ◌*◌, ◌<◌, ◌≤◌, ◌≡◌, Bool, true, false, cond, List, [], ◌∷◌, ◌++◌, length}
+use Rattle.std.specs.Prelude.{ℕ, ◌+◌, ◌*◌, ◌^◌, ◌<◌, ◌≤◌, ◌≡◌, Bool, true, false, cond, List, [], ◌∷◌, ◌++◌, length, Option, Some, None}
 use Rattle.word.specs.Assertions.{eq_fails, eq_cond_fails, zero_fails, non_zero_fails, false_fails, true_fails}
 use Rattle.bytecode.specs.declared.instruction.Instruction.{Instruction}
 use Rattle.bytecode.specs.declared.instruction.Instruction.TheVariants as I
 use Rattle.report.specs.Records.{packed, lowest}
 use Rattle.report.specs.Working.{Shows}
 use Rattle.report.specs.declared.record.Failure.{Failure}
-use Rattle.report.specs.declared.noting.Low.{Low}
+use Rattle.report.specs.declared.noting.Noting.{Noting}
 use Rattle.rows.specs.Column.{Col, column}
 use Rattle.rows.specs.declared.Stripe.{Stripe}
 use Rattle.fill.specs.declared.assertions.Kind.{Kind}
 use Rattle.fill.specs.declared.assertions.Kind.TheVariants.{Eq, EqCond, Zero, NonZero, False, True}
 use Rattle.fill.specs.declared.assertions.Claim.{Claim}
-use Rattle.fill.specs.declared.assertions.Claim.TheVariants.{Nothing, About}
 
 -- ---- assertions by kind: a condition, and the two words that are compared
 
@@ -33,37 +32,38 @@ told_by False n path a b = record { head = packed 0x64 n path; one = a; two = 0 
 told_by True n path a b = record { head = packed 0x65 n path; one = a; two = 0 }
 
 -- what an instruction claims
-abbrev pub claim_of : Instruction → Claim
-claim_of (I.Band a b c) = Nothing
-claim_of (I.Bor a b c) = Nothing
-claim_of (I.Bxor a b c) = Nothing
-claim_of (I.Select a b c d) = Nothing
-claim_of (I.BxorMulti a b) = Nothing
-claim_of (I.Fax a b c d) = Nothing
-claim_of (I.Shift a b c d) = Nothing
-claim_of (I.IaddCinCout a b c d e) = Nothing
-claim_of (I.IaddCarry a b c) = Nothing
-claim_of (I.IsubBinBout a b c d e) = Nothing
-claim_of (I.Imul a b c d) = Nothing
-claim_of (I.Iadd32CinCout a b c d e) = Nothing
-claim_of (I.Iadd32Cout a b c d) = Nothing
-claim_of (I.Hint a b c d) = Nothing
-claim_of (I.AssertEq a b path) = About Eq a a b path
-claim_of (I.AssertEqCond c a b path) = About EqCond c a b path
-claim_of (I.AssertZero v path) = About Zero v v v path
-claim_of (I.AssertNonZero v path) = About NonZero v v v path
-claim_of (I.AssertFalse v path) = About False v v v path
-claim_of (I.AssertTrue v path) = About True v v v path
+abbrev pub claim_of : Instruction → Option Claim
+claim_of (I.Band a b c) = None
+claim_of (I.Bor a b c) = None
+claim_of (I.Bxor a b c) = None
+claim_of (I.Select a b c d) = None
+claim_of (I.BxorMulti a b) = None
+claim_of (I.Fax a b c d) = None
+claim_of (I.Shift a b c d) = None
+claim_of (I.IaddCinCout a b c d e) = None
+claim_of (I.IaddCarry a b c) = None
+claim_of (I.IsubBinBout a b c d e) = None
+claim_of (I.Imul a b c d) = None
+claim_of (I.Iadd32CinCout a b c d e) = None
+claim_of (I.Iadd32Cout a b c d) = None
+claim_of (I.Hint a b c d) = None
+claim_of (I.AssertEq a b path) = Some (record { kind = Eq; condition = a; one = a; two = b; path = path })
+claim_of (I.AssertEqCond c a b path) = Some (record { kind = EqCond; condition = c; one = a; two = b; path = path })
+claim_of (I.AssertZero v path) = Some (record { kind = Zero; condition = v; one = v; two = v; path = path })
+claim_of (I.AssertNonZero v path) = Some (record { kind = NonZero; condition = v; one = v; two = v; path = path })
+claim_of (I.AssertFalse v path) = Some (record { kind = False; condition = v; one = v; two = v; path = path })
+claim_of (I.AssertTrue v path) = Some (record { kind = True; condition = v; one = v; two = v; path = path })
 
 -- the records of a claim of instruction n
-abbrev pub claimed : ℕ → Claim → Col → List Failure
-claimed n Nothing col = []
-claimed n (About k c a b path) col = cond (fails_by k (col c) (col a) (col b)) (told_by k n path (col a) (col b) ∷ []) []
+abbrev pub claimed : ℕ → Option Claim → Col → List Failure
+claimed n None col = []
+claimed n (Some c) col =
+    cond (fails_by c.kind (col c.condition) (col c.one) (col c.two)) (told_by c.kind n c.path (col c.one) (col c.two) ∷ []) []
 
 -- the registers that it reads are rows
-abbrev pub Reads : ℕ → Claim → Type 0
-Reads rows Nothing = Unit {0}
-Reads rows (About k c a b path) = (c < rows) × (a < rows) × (b < rows)
+abbrev pub Reads : ℕ → Option Claim → Type 0
+Reads rows None = Unit {0}
+Reads rows (Some c) = (c.condition < rows) × (c.one < rows) × (c.two < rows)
 
 -- ---- a stripe
 
@@ -71,16 +71,22 @@ Reads rows (About k c a b path) = (c < rows) × (a < rows) × (b < rows)
 abbrev pub column_of : Stripe → List ℕ → ℕ → Col
 column_of s xs k = column s.rows s.width xs (s.first + k)
 
--- the first of n at which p is true, or n
-pub record First (p : ℕ → Bool) (n r : ℕ) : Type 0 where
-  pub within : r ≤ n
-  pub before : (k : ℕ) → k < r → p k ≡ false
-  pub found : r < n → p r ≡ true
+-- a test of three words answers as p
+pub record Tests (post : ℕ → ℕ → ℕ → Bool → Type 0) (p : ℕ → ℕ → ℕ → Bool) : Type 0 where
+  pub value : (x y z : ℕ) (r : Bool) → x < 2 ^ 64 → y < 2 ^ 64 → z < 2 ^ 64 → post x y z r → r ≡ p x y z
+
+-- p is true at none of the first n
+abbrev pub Never : (ℕ → Bool) → ℕ → Type 0
+Never p n = (k : ℕ) → k < n → p k ≡ false
+
+-- the first of n at which p is true, if there is one
+abbrev pub First : (ℕ → Bool) → ℕ → Option ℕ → Type 0
+First p n None = Never p n
+First p n (Some r) = (r < n) × Never p r × (p r ≡ true)
 
 -- what was shown of the columns' violations v is shown of them with the further ones u
-abbrev pub Judged : ℕ → (ℕ → List Failure) → ℕ → Low → List ℕ → Low → List ℕ → Type 0
-Judged cap u count low records low' records' =
-    (v : ℕ → List Failure) → Shows cap (lowest v count) low records → Shows cap (lowest (λ k. v k ++ u k) count) low' records'
+abbrev pub Judged : (ℕ → List Failure) → ℕ → Noting → Noting → Type 0
+Judged u count before after = (v : ℕ → List Failure) → Shows (lowest v count) before → Shows (lowest (λ k. v k ++ u k) count) after
 
 -- ---- the lists of an instruction stand in its bytes
 

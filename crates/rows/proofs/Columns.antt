@@ -1,7 +1,7 @@
 -- Laws of a single column, and of lists of registers in bytes. Assumes nothing.
 use mathlib.Core.Path.{◌≡◌, refl, sym, ap, ap₂, ◌∙◌, subst, fun_ext}
 use mathlib.Core.List.{List, [], ◌∷◌, map, reverse}
-use Prim.Native.Nat.{ℕ, zero, suc, ◌+◌, ◌*◌, ◌-◌, ◌<◌, ◌≤◌}
+use Prim.Native.Nat.{ℕ, zero, suc, ◌+◌, ◌*◌, ◌-◌, ◌/◌, ◌<◌, ◌≤◌}
 use native.Mathlib.Nat.{le_of_suc-le-suc, not-suc-le-zero, suc-ne-zero, add_assoc}
 use native.Mathlib.Decide.{ℕ_discrete}
 use native.Mathlib.Numerals.{add-one}
@@ -12,6 +12,9 @@ use lib.Dec.{eqb}
 use lib.Bits.{bit_xor, xor_zero_l, xor_zero_r}
 use mathlib.Core.Bool.{Bool, true, false, cond}
 use borrow.Author.Tests.{eq-eqb, ne_eqb}
+use Rattle.std.specs.Int.{w32, from_le_bytes}
+use Rattle.std.specs.Simd.{first_chunks}
+use Rattle.std.proofs.lemmas.List.{get_or-map}
 use Rattle.common.specs.Lists.{member, all_below}
 use Rattle.common.proofs.Digits.{xor_assoc}
 use Rattle.common.proofs.Bools.{neither}
@@ -19,12 +22,11 @@ use Rattle.common.proofs.Below.{below_head, below_tail, below_at}
 use Rattle.bytecode.specs.Layout.{word_at, words}
 use Rattle.bytecode.proofs.Words.{length-words}
 use Rattle.accept.specs.Sound.{Apart}
+use Rattle.accept.specs.Working.{numbers}
+use Rattle.accept.proofs.Fours.{slice_words}
 use Rattle.word.specs.Bitwise.{xor_all}
 use Rattle.word.proofs.Rules.{reversed}
 use Rattle.rows.specs.Column.{Col, store, stores}
-use Rattle.rows.specs.Working.{InRow}
-use Rattle.rows.specs.declared.Stripe.{Stripe}
-use Rattle.rows.proofs.Stripes.{in_row}
 
 -- ---- a store
 
@@ -83,10 +85,10 @@ word_of_list s at (suc n) (suc j) h = word_of_list s (at + 4) n j (le_of_suc-le-
 pub register_at_lem : (s : List ℕ) (n j : ℕ) {r : ℕ} → j < n → r ≡ word_at s (4 * j) → r ≡ get_or (words s 0 n) j 0
 register_at_lem s n j h e = let z : 4 * j ≡ 0 + 4 * j = omega arith in e ∙ ap (word_at s) z ∙ sym (word_of_list s 0 n j h)
 
-pub register_in : (s : Stripe) {n r : ℕ} → n ≡ s.rows * s.width → (bytes : List ℕ) (k j : ℕ) → all_below s.rows (words bytes 0 k) ≡ true → j < k → r ≡ word_at bytes (4 * j) → InRow s n r
-register_in s {n} {r} e bytes k j below h q =
-    let there : get_or (words bytes 0 k) j 0 < s.rows = below_at s.rows (words bytes 0 k) j below (subst (λ m. j < m) (sym (length-words bytes 0 k)) h) in
-    in_row s e (subst (λ x. x < s.rows) (sym (register_at_lem bytes k j h q)) there)
+pub register_below : (rows : ℕ) (bytes : List ℕ) (k j : ℕ) → all_below rows (words bytes 0 k) ≡ true → j < k → word_at bytes (4 * j) < rows
+register_below rows bytes k j below h =
+    let there : get_or (words bytes 0 k) j 0 < rows = below_at rows (words bytes 0 k) j below (subst (λ m. j < m) (sym (length-words bytes 0 k)) h) in
+    subst (λ x. x < rows) (sym (register_at_lem bytes k j h refl)) there
 
 pub all_taken : (bytes : List ℕ) (k j : ℕ) → k ≤ j → take j (words bytes 0 k) ≡ words bytes 0 k
 all_taken bytes k j h = take_all j (words bytes 0 k) (subst (λ m. m ≤ j) (sym (length-words bytes 0 k)) h)
@@ -104,11 +106,7 @@ words_of_part s k a at zero h = refl
 words_of_part s k a at (suc n) h =
     ap₂ ◌∷◌ (word_of_part s k a at (omega arith)) (words_of_part s k a (at + 4) n (omega arith) ∙ ap (λ m. words s m n) (sym (add_assoc a at 4)))
 
-pub words_first : (s : List ℕ) (at n : ℕ) → 0 < n → words s at n ≡ word_at s at ∷ words s (at + 4) (n - 1)
-words_first s at zero h = absurd (not-suc-le-zero h)
-words_first s at (suc n) h = let e : n ≡ suc n - 1 = omega arith in ap (λ m. word_at s at ∷ words s (at + 4) m) e
-
-pub words_none : (s : List ℕ) (at n : ℕ) → n ≡ 0 → words s at n ≡ []
+words_none : (s : List ℕ) (at n : ℕ) → n ≡ 0 → words s at n ≡ []
 words_none s at zero e = refl
 words_none s at (suc n) e = absurd (suc-ne-zero n e)
 
@@ -126,7 +124,7 @@ xor-more col rs j h = rw add-one (go rs j h)
 pub xor_start : (d : ℕ) (rs : List ℕ) (col : Col) → store col d (bit_xor (col d) (xor_all (map col (take 0 rs)))) ≡ col
 xor_start d rs col = ap (store col d) (xor_zero_r (col d)) ∙ store_self col d
 
-pub xor-turn : (d : ℕ) (rs : List ℕ) (j s : ℕ) → member d rs ≡ false → j < length rs → s ≡ get_or rs j 0 → (col : Col)
+xor-turn : (d : ℕ) (rs : List ℕ) (j s : ℕ) → member d rs ≡ false → j < length rs → s ≡ get_or rs j 0 → (col : Col)
     → store (store col d (bit_xor (col d) (xor_all (map col (take j rs))))) d
     (bit_xor (store col d (bit_xor (col d) (xor_all (map col (take j rs)))) d) (store col d (bit_xor (col d) (xor_all (map col (take j rs)))) s))
     ≡ store col d (bit_xor (col d) (xor_all (map col (take (j + 1) rs))))
@@ -144,31 +142,60 @@ xor_seeded d a rs w col =
     store_again col d _ _
     ∙ ap (store col d) (ap₂ (λ x y. bit_xor x (xor_all y)) (store_here col d (col a)) (map-store col d (col a) rs (other_later d a rs w)))
 
--- ---- a BxorMulti's sources: the first, and the later ones as a part of the bytes
+-- ---- registers as slices of four bytes each
 
-abbrev pub later_part : List ℕ → ℕ → List ℕ
-later_part code later = words (take (13 + 4 * later - 13) (drop 13 code)) 0 later
+length-numbers : (rs : List (List ℕ)) → length (numbers rs) ≡ length rs
+length-numbers rs = length-map rs (λ (r : List ℕ). from_le_bytes w32 r)
 
-module _ (code : List ℕ) (n later : ℕ) (some : n ≡ 0 → ⊥) (less : later ≡ n - 1) where
-  sources_cut : words code 9 n ≡ word_at code 9 ∷ later_part code later
-  sources_cut =
-      words_first code 9 n (omega arith) ∙ ap (λ m. word_at code 9 ∷ words code 13 m) (sym less)
-      ∙ ap (λ ws. word_at code 9 ∷ ws) (sym (words_of_part code (13 + 4 * later - 13) 13 0 later (omega arith)))
+number_at : (rs : List (List ℕ)) (i : ℕ) {r : ℕ} → i < length rs → r ≡ from_le_bytes w32 (get_or rs i []) → r ≡ get_or (numbers rs) i 0
+number_at rs i h e = e ∙ sym (get_or-map (λ (r : List ℕ). from_le_bytes w32 r) rs i [] 0 h)
 
-  pub first_below : (rows : ℕ) {r : ℕ} → all_below rows (words code 9 n) ≡ true → r ≡ word_at code 9 → r < rows
-  first_below rows e q = subst (λ x. x < rows) (sym q) (below_head rows (word_at code 9) (later_part code later) (rw sources_cut at e))
+pub number_below : (rows : ℕ) (rs : List (List ℕ)) (i : ℕ) {r : ℕ} → all_below rows (numbers rs) ≡ true → i < length rs → r ≡ from_le_bytes w32 (get_or rs i []) → r < rows
+number_below rows rs i b h e =
+    subst (λ x. x < rows) (sym (number_at rs i h e)) (below_at rows (numbers rs) i b (omega (arith, length-numbers rs)))
 
-  pub later_below : (rows : ℕ) → all_below rows (words code 9 n) ≡ true → all_below rows (later_part code later) ≡ true
-  later_below rows e = below_tail rows (word_at code 9) (later_part code later) (rw sources_cut at e)
+-- one register more is folded in
+pub number_turn : (d : ℕ) (rs : List (List ℕ)) (i : ℕ) {r : ℕ} → member d (numbers rs) ≡ false → i < length rs → r ≡ from_le_bytes w32 (get_or rs i []) → (col : Col)
+    → store (store col d (bit_xor (col d) (xor_all (map col (take i (numbers rs)))))) d
+    (bit_xor (store col d (bit_xor (col d) (xor_all (map col (take i (numbers rs))))) d) (store col d (bit_xor (col d) (xor_all (map col (take i (numbers rs))))) r))
+    ≡ store col d (bit_xor (col d) (xor_all (map col (take (i + 1) (numbers rs)))))
+number_turn d rs i {r} w h e = xor-turn d (numbers rs) i r w (omega (arith, length-numbers rs)) (number_at rs i h e)
 
-  pub later_other : (d : ℕ) → member d (words code 9 n) ≡ false → member d (later_part code later) ≡ false
-  later_other d e = other_later d (word_at code 9) (later_part code later) (rw sources_cut at e)
+-- as `as_chunks` cuts them
+abbrev four_each : List ℕ → List (List ℕ)
+four_each bytes = first_chunks 4 (length bytes / 4) bytes
 
-  pub xor-whole : (d a : ℕ) → a ≡ word_at code 9 → member d (words code 9 n) ≡ false → (col : Col)
-      → store (store col d (col a)) d (bit_xor (store col d (col a) d) (xor_all (map (store col d (col a)) (later_part code later))))
-      ≡ store col d (xor_all (map col (words code 9 n)))
-  xor-whole d a q e col =
-      rw q (xor_seeded d (word_at code 9) (later_part code later) (rw sources_cut at e) col ∙ ap (λ rs. store col d (xor_all (map col rs))) (sym sources_cut))
+-- a BxorMulti's sources: the first, and the later ones
+module _ (code : List ℕ) (n : ℕ) (sources : List (List ℕ)) (held : 9 + 4 * n ≤ length code) (chunks : sources ≡ four_each (take (9 + 4 * n - 9) (drop 9 code))) where
+  whole : numbers sources ≡ words code 9 n
+  whole = rw chunks (slice_words code 9 n held)
+
+  pub sources_none : length sources < 1 → words code 9 n ≡ []
+  sources_none h = words_none code 9 n (omega (arith, ap length whole, length-numbers sources, length-words code 9 n))
+
+  module _ (a : ℕ) (some : 1 ≤ length sources) (first : a ≡ from_le_bytes w32 (get_or sources 0 [])) where
+    abbrev later : List ℕ
+    later = numbers (take (length sources - 1) (drop 1 sources))
+
+    sources_cut : words code 9 n ≡ a ∷ later
+    sources_cut = sym whole ∙ go sources some ∙ ap (λ x. x ∷ later) (sym first)
+      where
+        go : (rs : List (List ℕ)) → 1 ≤ length rs → numbers rs ≡ from_le_bytes w32 (get_or rs 0 []) ∷ numbers (take (length rs - 1) (drop 1 rs))
+        go [] h = absurd (omega arith)
+        go (r ∷ rs) h = ap (λ xs. from_le_bytes w32 r ∷ numbers xs) (sym (take_all (suc (length rs) - 1) rs (omega arith)))
+
+    pub first_below : (rows : ℕ) → all_below rows (words code 9 n) ≡ true → a < rows
+    first_below rows e = below_head rows a later (rw sources_cut at e)
+
+    pub later_below : (rows : ℕ) → all_below rows (words code 9 n) ≡ true → all_below rows later ≡ true
+    later_below rows e = below_tail rows a later (rw sources_cut at e)
+
+    pub later_other : (d : ℕ) → member d (words code 9 n) ≡ false → member d later ≡ false
+    later_other d e = other_later d a later (rw sources_cut at e)
+
+    pub xor-whole : (d : ℕ) → member d (words code 9 n) ≡ false → (col : Col)
+        → store (store col d (col a)) d (bit_xor (store col d (col a) d) (xor_all (map (store col d (col a)) later))) ≡ store col d (xor_all (map col (words code 9 n)))
+    xor-whole d e col = xor_seeded d a later (rw sources_cut at e) col ∙ ap (λ rs. store col d (xor_all (map col rs))) (sym sources_cut)
 
 -- ---- outputs stored one after the other
 

@@ -1,3 +1,2 @@
 pub mod Stripes
 pub mod Columns
-pub mod Variants

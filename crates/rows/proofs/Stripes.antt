@@ -13,7 +13,7 @@ use mathlib.Core.Bool.{true, false, cond}
 use lib.Dec.{eqb, ltb}
 use borrow.Author.Tests.{eq-eqb, ne_eqb, lt-ltb, le-ltb, le-leb, lt-leb}
 use Rattle.rows.specs.Column.{Col, place, column, store, stores, tabulate, in_stripe, on_stripe}
-use Rattle.rows.specs.Working.{Within, InRow, Done, Across}
+use Rattle.rows.specs.Working.{InRow, Done, Across}
 use Rattle.rows.specs.declared.Stripe.{Stripe}
 
 -- ---- a word of a column
@@ -130,25 +130,18 @@ at_columns s n size ys (r ∷ rs) room =
 abbrev pub Upto : (Col → Col) → Stripe → ℕ → List ℕ → List ℕ → Type 0
 Upto F s n xs ys = (n ≤ s.count) × Done F s n xs ys
 
-pub upto_none : (F : Col → Col) (s : Stripe) (xs : List ℕ) → Upto F s 0 xs xs
-upto_none F s xs = (omega arith, done_none F s xs)
-
 -- the one law of the row loops: registers ds take the words that f makes of registers ss
-pub turn : (f : List ℕ → List ℕ) (ds ss vs : List ℕ) {s : Stripe} {n : ℕ} {xs ys : List ℕ} → Within s → n < s.count → InRows s (length xs) ds → InRows s (length xs) ss
+pub turn : (f : List ℕ → List ℕ) (ds ss vs : List ℕ) {s : Stripe} {n : ℕ} {xs ys : List ℕ} → n < s.count → InRows s (length xs) ds → InRows s (length xs) ss
     → vs ≡ f (map (λ r. get_or ys (r * s.width + s.first + n) 0) ss)
     → Upto (λ col. stores ds (f (map col ss)) col) s n xs ys
     → Upto (λ col. stores ds (f (map col ss)) col) s (n + 1) xs (puts s n ds vs ys)
-turn f ds ss vs {s} {n} {xs} {ys} w l room room' p (_, done) =
-    let h : s.first + n < s.width = omega arith in (
+turn f ds ss vs {s} {n} {xs} {ys} l room room' p (_, done) =
+    let h : s.first + n < s.width = omega (arith, s.within) in (
       omega arith,
       done_more h done
           (turned_as (λ col. stores ds (f (map col ss)) col) (turned_puts s n h ds vs ys (rw done.size room))
           (ap (λ ws. stores ds ws (column s.rows s.width ys (s.first + n))) (p ∙ ap f (at_columns s n (length xs) ys ss room')))),
     )
-
--- a loop at its end
-pub upto_all : {F : Col → Col} {s : Stripe} {n : ℕ} {xs ys : List ℕ} → s.count ≤ n → Upto F s n xs ys → Across F s xs ys
-upto_all {F} {s} {n} {xs} {ys} h u = let e : n ≡ s.count = omega arith in subst (λ m. Done F s m xs ys) e u.1
 
 -- ---- functions run across one after the other
 

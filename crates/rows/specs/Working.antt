@@ -1,39 +1,19 @@
 -- Working definitions: what the contracts of the row loops cite. No reader of document 01 needs them. Assumes nothing.
-use Rattle.std.specs.Prelude.{ℕ, ◌+◌, ◌*◌, ◌<◌, ◌≤◌, ◌≡◌, ◌⊎◌, List, [], ◌∷◌, length, get_or}
-use Rattle.std.specs.Int.Bits.{bit_and, bit_or, bit_xor}
-use Rattle.common.specs.Bits.{bit_at}
-use Rattle.word.specs.Arithmetic.{sum_word, carry_word, sum_halves, carry_halves, difference_word, borrow_word, high_word, low_word}
-use Rattle.word.specs.Bitwise.{fax_word, select_word}
-use Rattle.word.specs.Hints.{quotient_of, remainder_of, zeros_above}
+use Rattle.std.specs.Prelude.{ℕ, ◌+◌, ◌*◌, ◌^◌, ◌<◌, ◌≤◌, ◌≡◌, ◌⊎◌, List, length}
 use Rattle.rows.specs.Column.{Col, column}
 use Rattle.rows.specs.declared.Stripe.{Stripe}
 
--- ---- the word functions, by kind; each takes three words, and what it has no use for it leaves
+-- ---- a word function by the words that its calls return
 
-abbrev pub one_word : ℕ → ℕ → ℕ → ℕ → ℕ
-one_word kind x y z =
-    get_or
-    (0 ∷ x ∷ bit_and x y ∷ bit_or x y ∷ bit_xor x y ∷ carry_word 64 x y 0 ∷ select_word x y z ∷ fax_word x y z ∷ zeros_above 64 x ∷ [])
-    kind (zeros_above 64 x)
+-- each call returns g of its three words
+pub record Makes (post : ℕ → ℕ → ℕ → ℕ → Type 0) (g : ℕ → ℕ → ℕ → ℕ) : Type 0 where
+  pub value : (x y z r : ℕ) → x < 2 ^ 64 → y < 2 ^ 64 → z < 2 ^ 64 → post x y z r → r ≡ g x y z
 
--- add, subtract, multiply, add by halves with carry-ins and without, divide
-abbrev pub first_word : ℕ → ℕ → ℕ → ℕ → ℕ
-first_word kind x y z =
-    get_or
-    (sum_word 64 x y (bit_at z 63) ∷ difference_word 64 x y (bit_at z 63) ∷ high_word 64 x y ∷ sum_halves x y z ∷ sum_halves x y 0 ∷ quotient_of x y ∷ [])
-    kind (quotient_of x y)
-
-abbrev pub second_word : ℕ → ℕ → ℕ → ℕ → ℕ
-second_word kind x y z =
-    get_or
-    (carry_word 64 x y (bit_at z 63) ∷ borrow_word 64 x y (bit_at z 63) ∷ low_word 64 x y ∷ carry_halves x y z ∷ carry_halves x y 0 ∷ remainder_of x y ∷ [])
-    kind (remainder_of x y)
+-- each call returns two words, g and h of its three
+pub record MakesTwo (post : ℕ → ℕ → ℕ → ℕ × ℕ → Type 0) (g h : ℕ → ℕ → ℕ → ℕ) : Type 0 where
+  pub values : (x y z : ℕ) (r : ℕ × ℕ) → x < 2 ^ 64 → y < 2 ^ 64 → z < 2 ^ 64 → post x y z r → (r.0 ≡ g x y z) × (r.1 ≡ h x y z)
 
 -- ---- a function run across a stripe
-
--- the stripe lies within the batch
-abbrev pub Within : Stripe → Type 0
-Within s = s.first + s.count ≤ s.width
 
 -- register r is one of the rows, and an array of n words holds its row whole
 abbrev pub InRow : Stripe → ℕ → ℕ → Type 0

@@ -1,14 +1,11 @@
--- `rows::loops::two_rows`'s loop: `i` columns of the stripe are done. Assumes nothing.
-use Rattle.std.proofs.Common.{◌-◌}
+-- `rows::loops::two_rows`'s loop: `i` columns of the stripe are done, whatever functions the calls turn out to be. Assumes nothing.
+use Rattle.std.proofs.Common.{ℕ}
 use Rattle.rows.specs.Column.{store}
-use Rattle.rows.specs.Working.{first_word, second_word}
+use Rattle.rows.specs.Working.{MakesTwo}
 use Rattle.rows.proofs.Stripes.{Upto}
 use Rattle.rows.proofs.loops.two_rows.Given as goal
 
 abbrev pub invariant-loop-i : goal.invariant-loop-i
-invariant-loop-i l =
-    Upto (λ col. store (store col l.d (first_word l.kind (col l.a) (col l.b) (col l.c))) l.e (second_word l.kind (col l.a) (col l.b) (col l.c)))
-    l.s l.i l.initial.values l.values
-
-abbrev pub decreases-loop-i : goal.decreases-loop-i
-decreases-loop-i l = l.s.count - l.i
+invariant-loop-i g l =
+    (f h : ℕ → ℕ → ℕ → ℕ) → MakesTwo (goal.F-post g l.makes) f h
+    → Upto (λ col. store (store col l.d (f (col l.a) (col l.b) (col l.c))) l.e (h (col l.a) (col l.b) (col l.c))) l.fn.s l.i l.initial.values l.values

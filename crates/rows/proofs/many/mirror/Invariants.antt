@@ -1,5 +1,5 @@
 -- `rows::many::mirror`'s loop: the first `j` outputs are copied, in every column of the stripe. Assumes nothing.
-use Rattle.std.proofs.Common.{◌-◌, ◌≤◌, map, reverse, take}
+use Rattle.std.proofs.Common.{map, reverse, take}
 use Rattle.bytecode.specs.Layout.{words}
 use Rattle.rows.specs.Column.{stores}
 use Rattle.rows.specs.Working.{Across}
@@ -7,7 +7,4 @@ use Rattle.rows.proofs.many.mirror.Given as goal
 
 abbrev pub invariant-loop-j : goal.invariant-loop-j
 invariant-loop-j l =
-    (l.j ≤ l.k) × Across (λ col. stores (take l.j (words l.outs 0 l.k)) (reverse (map col (words l.ins 0 l.k))) col) l.s l.initial.values l.values
-
-abbrev pub decreases-loop-j : goal.decreases-loop-j
-decreases-loop-j l = l.k - l.j
+    Across (λ col. stores (take l.j (words l.outputs 0 l.k)) (reverse (map col (words l.inputs 0 l.k))) col) l.fn.s l.initial.values l.values
