@@ -1,28 +1,21 @@
 -- Flat gate ends against the list of gates, and what an accepted list tells. Assumes nothing.
-use mathlib.Core.Path.{◌≡◌, refl, sym, ap}
+use mathlib.Core.Path.{◌≡◌, refl, sym, ap, ◌∙◌}
 use mathlib.Core.Bool.{Bool, true, false, ◌||◌, or-true, true≢false}
 use mathlib.Core.List.{List, [], ◌∷◌}
-use Prim.Native.Nat.{ℕ, zero, suc, ◌+◌, ◌≤◌, ◌<◌}
-use native.Mathlib.Numerals.{add-one}
+use Prim.Native.Nat.{ℕ, zero, suc, ◌+◌, ◌-◌, ◌≤◌, ◌<◌, min}
 use native.Mathlib.Omega.{arith}
 use lib.ListN.{length, get_or, take, drop}
 use lib.Seq.{slice}
 use lib.Dec.{eqb, leb}
 use borrow.Author.Tests.{eqb-true, leb-true}
+use Rattle.std.proofs.lemmas.List.{drop-take, get_or-take, get_or-drop, length-take, length-drop}
 use Rattle.common.specs.Lists.{member, all_below}
 use Rattle.common.proofs.Bools.{both}
 use Rattle.common.proofs.Below.{below_at, member-at}
 use Rattle.scratch.specs.Gates.{gates_from, gates_of}
 use Rattle.scratch.specs.Accept.{most_wires, most_gates, most_mentions, closes, accepted}
 use Rattle.scratch.specs.Policies.{unslotted}
-
--- where gate k begins; past the last gate, the last gate end
-abbrev pub start : ℕ → List ℕ → ℕ → ℕ
-start from ends zero = from
-start from ends (suc k) = get_or ends k 0
-
-pub start_next : (ends : List ℕ) (g to : ℕ) → to ≡ get_or ends g 0 → to ≡ start 0 ends (g + 1)
-start_next ends g to e = rw add-one e
+use Rattle.scratch.specs.Working.Arrays.{Within, start}
 
 pub gates_length : (from : ℕ) (ends mentions : List ℕ) → length (gates_from from ends mentions) ≡ length ends
 gates_length from [] mentions = refl
@@ -33,6 +26,21 @@ gate_at from [] mentions k h = absurd (omega arith)
 gate_at from (end ∷ ends) mentions zero h = refl
 gate_at from (end ∷ ends) mentions (suc zero) h = gate_at end ends mentions zero (omega arith)
 gate_at from (end ∷ ends) mentions (suc (suc k)) h = gate_at end ends mentions (suc k) (omega arith)
+
+pub start_after : (ends : List ℕ) (k : ℕ) → 0 < k → start 0 ends k ≡ get_or ends (k - 1) 0
+start_after ends zero h = absurd (omega arith)
+start_after ends (suc k) h = let e : k ≡ suc k - 1 = omega arith in ap (λ (j : ℕ). get_or ends j 0) e
+
+-- a part of a list, cut from either side first
+pub cut_is : (a b : ℕ) (xs : List ℕ) → a ≤ b → take (b - a) (drop a xs) ≡ slice a b xs
+cut_is a b xs h = let e : a + (b - a) ≡ b = omega arith in sym (drop-take a (b - a) xs) ∙ ap (λ (n : ℕ). drop a (take n xs)) e
+
+-- what a list keeps below n, a part of it does
+pub cut_known : (n : ℕ) (xs : List ℕ) (a k : ℕ) → all_below n xs ≡ true → Within n (take k (drop a xs))
+cut_known n xs a k h i l =
+    let m : i < min k (length xs - a) = simp (length-take, length-drop) at l in
+    let b : get_or xs (a + i) 0 < n = below_at n xs (a + i) h (omega arith) in
+    rw (get_or-take k (drop a xs) i 0 (omega arith), get_or-drop a xs i 0) b
 
 -- ends that close: none falls, none passes the count, and the last is the count
 close_total : (from count : ℕ) (ends : List ℕ) → closes from count ends ≡ true → from ≤ count
@@ -100,11 +108,6 @@ good wires ends mentions marks slots h =
       marked = eqb-true (length marks) wires f;
       slotted = eqb-true (length slots) wires g;
     }
-
--- of the slots only their number is judged
-pub accepted_slots : (wires : ℕ) (ends mentions marks slots slots' : List ℕ) → length slots ≡ length slots' → accepted wires ends mentions marks slots ≡ accepted wires ends mentions marks slots'
-unfolding accepted
-accepted_slots wires ends mentions marks slots slots' e = rw e
 
 module _ {wires : ℕ} {ends mentions marks slots : List ℕ} (ok : Good wires ends mentions marks slots) where
   -- a wire's number is never taken for the mark of the unslotted

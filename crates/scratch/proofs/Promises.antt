@@ -10,11 +10,12 @@ use lib.ListN.{length, get_or}
 use lib.Seq.{take-length}
 use lib.Dec.{eqb, ltb}
 use borrow.Author.Tests.{eqb-true, eq-eqb, not-true, ltb-true, ltb-false}
+use Rattle.std.specs.Prelude.{Result, Ok, Err}
+use Rattle.refusal.specs.declared.Refusal.{Refusal}
 use Rattle.refusal.proofs.Numbers.{number_names_one, number_range}
 use Rattle.scratch.specs.declared.Policy.{Policy}
 use Rattle.scratch.specs.declared.Policy.TheVariants.{PerWire, Pooled}
 use Rattle.scratch.specs.declared.Allocation.{Allocation}
-use Rattle.scratch.specs.declared.Allocation.TheVariants.{Sized, Refused}
 use Rattle.scratch.specs.Gates.{gates_of, scratch, mentioned, among, peak_to, peak}
 use Rattle.scratch.specs.Accept.{most_wires, accepted, Broken}
 use Rattle.scratch.specs.Policies.{unslotted}
@@ -27,13 +28,13 @@ use Rattle.scratch.proofs.per_wire.Numbers.{per_wire_slot, per_wire-length}
 use Rattle.scratch.proofs.pooled.EachGate.{fair, size_is, apart, taken_is}
 
 -- the number, which no refusal shares with an accepted answer, and the values tell the answer, so the contract leaves one
-pub told_once : (r s : Allocation) → told r ≡ told s → r ≡ s
-told_once (Sized l p) (Sized l' p') e = ap₂ Sized (ap (λ (t : Told). t.length) e) (ap (λ (t : Told). t.peak) e)
-told_once (Sized l p) (Refused y) e = absurd (omega (arith, number_range y, ap (λ (t : Told). t.number) e))
-told_once (Refused x) (Sized l p) e = absurd (omega (arith, number_range x, ap (λ (t : Told). t.number) e))
-told_once (Refused x) (Refused y) e = ap Refused (number_names_one x y (ap (λ (t : Told). t.number) e))
+pub told_once : (r s : Result Allocation Refusal) → told r ≡ told s → r ≡ s
+told_once (Ok a) (Ok b) e = ap₂ (λ (l p : ℕ). Ok (record { length = l; peak = p })) (ap (λ (t : Told). t.length) e) (ap (λ (t : Told). t.peak) e)
+told_once (Ok a) (Err y) e = absurd (omega (arith, number_range y, ap (λ (t : Told). t.number) e))
+told_once (Err x) (Ok b) e = absurd (omega (arith, number_range x, ap (λ (t : Told). t.number) e))
+told_once (Err x) (Err y) e = ap Err (number_names_one x y (ap (λ (t : Told). t.number) e))
 
-pub answer_once : (wires : ℕ) (ends mentions marks slots : List ℕ) (policy : Policy) (r s : Allocation) → told r ≡ answer_of wires ends mentions marks slots policy → told s ≡ answer_of wires ends mentions marks slots policy → r ≡ s
+pub answer_once : (wires : ℕ) (ends mentions marks slots : List ℕ) (policy : Policy) (r s : Result Allocation Refusal) → told r ≡ answer_of wires ends mentions marks slots policy → told s ≡ answer_of wires ends mentions marks slots policy → r ≡ s
 answer_once wires ends mentions marks slots policy r s p q = told_once r s (p ∙ sym q)
 
 module _ (wires : ℕ) (ends mentions marks slots : List ℕ) (policy : Policy) where

@@ -3,18 +3,19 @@ use mathlib.Core.Path.{◌≡◌, refl, sym, ap, ◌∙◌}
 use mathlib.Core.Bool.{Bool, true, false, ◌&&◌, true≢false}
 use mathlib.Core.List.{List, [], ◌∷◌}
 use mathlib.Core.Logic.{◌⊎◌, inl, inr}
-use Prim.Native.Nat.{ℕ, zero, suc, ◌≤◌, ◌<◌}
+use Prim.Native.Nat.{ℕ, zero, suc, ◌<◌}
 use native.Mathlib.Omega.{arith}
 use lib.ListN.{length, get_or}
 use lib.Dec.{eqb, leb}
-use borrow.Author.Tests.{eqb-false, leb-false, le-leb, eq-eqb}
+use borrow.Author.Tests.{eqb-false, leb-false}
 use Rattle.common.specs.Lists.{all_below}
 use Rattle.scratch.specs.Accept.{most_wires, most_gates, most_mentions, closes, accepted, Broken}
 use Rattle.common.proofs.Below.{below_at, member-at, not-below}
-use Rattle.scratch.proofs.Cut.{start, close_at, close_last, Good, good}
+use Rattle.scratch.specs.Working.Arrays.{start}
+use Rattle.scratch.proofs.Cut.{close_at, close_last, Good, good}
 
 -- ends that do not close: one falls, or the last is not the count
-unclosed : (from count : ℕ) (ends : List ℕ) → closes from count ends ≡ false
+pub unclosed : (from count : ℕ) (ends : List ℕ) → closes from count ends ≡ false
     → ((k : ℕ) × (k < length ends) × (get_or ends k 0 < start from ends k)) ⊎ (start from ends (length ends) ≡ count → ⊥)
 unclosed from count [] h = inr (eqb-false from count h)
 unclosed from count (end ∷ ends) h = go (leb from end) refl h (unclosed end count ends)
@@ -85,12 +86,6 @@ module _ (wires : ℕ) (ends mentions marks slots : List ℕ) where
       let (x, m, q) = not-below wires mentions h in
       let (i, l, e) = member-at x mentions m in
       Broken.unknown_wire i l (omega arith)
-
-  -- what passes all tests but the last is judged by it
-  pub last_judges : wires ≤ most_wires → length ends ≤ most_gates → length mentions ≤ most_mentions → closes 0 (length mentions) ends ≡ true → all_below wires mentions ≡ true → length marks ≡ wires
-      → accepted wires ends mentions marks slots ≡ eqb (length slots) wires
-  last_judges a b c d e f =
-      judge true true true true true true (eqb (length slots) wires) (le-leb wires most_wires a) (le-leb (length ends) most_gates b) (le-leb (length mentions) most_mentions c) d e (eq-eqb (length marks) wires f) refl
 
   pub broken : accepted wires ends mentions marks slots ≡ false → Broken wires ends mentions marks slots
   broken h =

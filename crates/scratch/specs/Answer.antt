@@ -1,11 +1,11 @@
 -- What `pool` answers, and what it leaves in the lent slots.
-use Rattle.std.specs.Prelude.{cond, List, ℕ, length}
+use Rattle.std.specs.Prelude.{cond, List, ℕ, length, Result, Ok, Err}
 use Rattle.refusal.specs.Number.{number_of}
+use Rattle.refusal.specs.declared.Refusal.{Refusal}
 use Rattle.refusal.specs.declared.Refusal.TheVariants.{BadGates}
 use Rattle.scratch.specs.declared.Policy.{Policy}
 use Rattle.scratch.specs.declared.Policy.TheVariants.{PerWire, Pooled}
 use Rattle.scratch.specs.declared.Allocation.{Allocation}
-use Rattle.scratch.specs.declared.Allocation.TheVariants.{Sized, Refused}
 use Rattle.scratch.specs.Gates.{gates_of, scratch, among, peak}
 use Rattle.scratch.specs.Policies.{pooled, per_wire}
 use Rattle.scratch.specs.Accept.{accepted}
@@ -16,9 +16,9 @@ pub record Told : Type 0 where
   pub length : ℕ
   pub peak : ℕ
 
-abbrev pub told : Allocation → Told
-told (Sized length peak) = record { number = 0; length = length; peak = peak }
-told (Refused why) = record { number = number_of why; length = 0; peak = 0 }
+abbrev pub told : Result Allocation Refusal → Told
+told (Ok a) = record { number = 0; length = a.length; peak = a.peak }
+told (Err r) = record { number = number_of r; length = 0; peak = 0 }
 
 -- of an accepted list: its slots, and how many slots were taken
 abbrev pub slots_of : ℕ → List ℕ → List (List ℕ) → Policy → List ℕ

@@ -1,31 +1,47 @@
--- Working definitions, cited by contracts of inner functions: how the code holds the pool. A reader of the public contract need not believe them.
-use Rattle.std.specs.Prelude.{List, [], ◌∷◌, ℕ, zero, suc, ◌<◌, length, get_or, set}
-use Rattle.scratch.specs.declared.pooled.Level.{Level}
-use Rattle.scratch.specs.Policies.{Pool}
+-- Working definitions over the code's structs, cited by contracts of inner functions: how it holds the gates, the dying and the pool. A reader of the public contract need not believe them.
+pub mod Arrays
+use Rattle.std.specs.Prelude.{◌≡◌, List, ℕ, ◌<◌, length, get_or, replicate}
+use Rattle.scratch.specs.declared.judge.GateList.{GateList}
+use Rattle.scratch.specs.declared.deaths.Chain.{Chain}
+use Rattle.scratch.specs.declared.deaths.Deaths.{Deaths}
+use Rattle.scratch.specs.declared.stock.Stock.{Stock}
+use Rattle.scratch.specs.Gates.{gates_of, peak}
+use Rattle.scratch.specs.Policies.{Pool, dying, pooled}
+use Rattle.scratch.specs.Working.Arrays.{chain}
 
--- the first k of the array, the last one first
-abbrev pub stack : List ℕ → ℕ → List ℕ
-stack xs zero = []
-stack xs (suc k) = get_or xs k 0 ∷ stack xs k
+-- the gates of a list, and how many wires it has marks for
+abbrev pub gates_in : GateList → List (List ℕ)
+gates_in list = gates_of list.ends.now list.mentions.now
 
--- the pool that the slots, the stack of free slots and its level stand for
-abbrev pub pool_of : List ℕ → List ℕ → Level → Pool
-pool_of slots free at = record { slots = slots; free = stack free at.top; size = at.size }
+abbrev pub wires_in : GateList → ℕ
+wires_in list = length list.marks.now
 
--- c wires from w on, each one's link naming the next
-abbrev pub chain : List ℕ → ℕ → ℕ → List ℕ
-chain link zero w = []
-chain link (suc c) w = w ∷ chain link c (get_or link w 0)
+-- the pool after all gates, and the peak
+abbrev pub pooled_in : GateList → Pool
+pooled_in list = pooled (wires_in list) list.marks.now (gates_in list) (length list.ends.now)
 
--- each wire of a gate is stamped with the gate's number
-abbrev pub stamped : ℕ → List ℕ → List ℕ → List ℕ
-stamped g last [] = last
-stamped g last (w ∷ ws) = stamped g (set last w g) ws
+abbrev pub peak_in : GateList → ℕ
+peak_in list = peak (wires_in list) list.marks.now (gates_in list)
 
--- the stamps after the first k gates
-abbrev pub stamped_to : List (List ℕ) → ℕ → List ℕ → List ℕ
-stamped_to gates zero last = last
-stamped_to gates (suc k) last = stamped k (stamped_to gates k last) (get_or gates k [])
+-- the pool that the slots and the stock stand for
+abbrev pub pool_of : List ℕ → Stock → Pool
+pool_of slots stock = record { slots = slots; free = stock.free; size = stock.size }
 
-abbrev pub Within : ℕ → List ℕ → Type 0
-Within n ws = (i : ℕ) → i < length ws → get_or ws i 0 < n
+-- a chain of no wire, and the wires of one
+abbrev pub empty_chain : Chain
+empty_chain = record { head = 0; count = 0 }
+
+abbrev pub wires_of : List ℕ → Chain → List ℕ
+wires_of link c = chain link c.count c.head
+
+-- the wires that die at gate g
+abbrev pub died_at : Deaths → ℕ → List ℕ
+died_at deaths g = wires_of deaths.link (get_or deaths.chains g empty_chain)
+
+-- no wire has died yet
+abbrev pub Undying : Deaths → Type 0
+Undying deaths = deaths.chains ≡ replicate 8193 empty_chain
+
+-- at each gate the wires die that mention it last
+abbrev pub Ordered : GateList → Deaths → Type 0
+Ordered list deaths = (g : ℕ) → g < length list.ends.now → died_at deaths g ≡ dying (wires_in list) list.marks.now (gates_in list) g

@@ -1,166 +1,96 @@
 //! Slots that are shared, each free again once the gate that last mentions its wire has passed: the
 //! Rust's pool_slots.
-ghost use Rattle.std.specs.Prelude.{◌≡◌, true, ℕ, ◌+◌, ◌-◌, ◌≤◌, ◌<◌, max, length, get_or, replicate};
-ghost use Rattle.std.proofs.Math.Seq.{slice};
+ghost use Rattle.std.specs.Prelude.{◌≡◌, true, ℕ, ◌+◌, ◌≤◌, ◌<◌, length, replicate};
 ghost use Rattle.common.specs.Lists.{member};
-ghost use Rattle.scratch.specs.Gates.{gates_of, peak};
-ghost use Rattle.scratch.specs.Accept.{accepted};
-ghost use Rattle.scratch.specs.Policies.{unslotted, meets, meet_all, gives, dying, pooled};
-ghost use Rattle.scratch.specs.Working.{pool_of, chain, Within};
+ghost use Rattle.scratch.specs.Policies.{unslotted, meets, meet_all, gives};
+ghost use Rattle.scratch.specs.Working.Arrays.{Within};
+ghost use Rattle.scratch.specs.Working.{wires_in, pooled_in, peak_in, pool_of, died_at, Ordered};
 
-use super::deaths::order_deaths;
-use common::wide;
+use super::Allocation;
+use super::deaths::Deaths;
+use super::judge::{GateList, MOST_WIRES, is_scratch};
+use super::stock::Stock;
 
+// What a wire without a slot reads. The lent slots are C's, so it is a number and no Option.
 pub const UNSLOTTED: u32 = 4294967295;
 
-// How high the stack of free slots is, and how many slots were ever taken.
-#[derive(Clone, Copy)]
-pub struct Level {
-    pub top: usize,
-    pub size: u32,
-}
-
-// What a sweep over all gates comes to.
-#[derive(Drop)]
-pub struct Swept {
-    pub length: u32,
-    pub peak: u32,
-}
-
-// One mention of a wire.
-fn meet(w: usize, marks: &[u8], slots: &mut [u32], free: &[u32; 8192], at: Level) -> Level
-    requires { (w < length marks.now) × (w < length slots.old) × (at.top ≤ 8192) × (at.size < 4294967295) }
-    ensures { (pool_of slots.new free.now result ≡ meets marks.now (pool_of slots.old free.now at) w) × (result.top ≤ at.top) × (result.size ≤ at.size + 1) }
+// The pooled slots, how many were taken, and the peak. The work arrays are local: some 96 KiB in `deaths`,
+// and 32 KiB each in `Deaths::order` and in `share`, of which one at a time is in use.
+pub fn pool_slots(gates: &GateList, slots: &mut [u32]) -> Allocation
+    requires { length slots.old ≡ wires_in gates.now }
+    ensures slots { slots.new ≡ (pooled_in gates.now).slots }
+    ensures length { result.length ≡ (pooled_in gates.now).size }
+    ensures peak { result.peak ≡ peak_in gates.now }
 {
-    let top = at.top;
-    let size = at.size;
-    if marks[w] == 0 {
-        return at;
+    let mut deaths = Deaths::none();
+    deaths.order(gates);
+    slots.fill(UNSLOTTED);
+    share(gates, &deaths, slots)
+}
+
+// The gates in order, over cleared slots. `g` is counted, since the gate list and the deaths both go by it,
+// and the gates lie in no array of their own.
+fn share(gates: &GateList, deaths: &Deaths, slots: &mut [u32]) -> Allocation
+    requires cleared { slots.old ≡ replicate (wires_in gates.now) unslotted }
+    requires ordered { Ordered gates.now deaths.now }
+    ensures slots { slots.new ≡ (pooled_in gates.now).slots }
+    ensures length { result.length ≡ (pooled_in gates.now).size }
+    ensures peak { result.peak ≡ peak_in gates.now }
+{
+    let mut room = [0; MOST_WIRES];
+    let mut stock = Stock::new(&mut room);
+    let mut peak = 0;
+    for g in 0..gates.ends.len() {
+        allot(gates.gate(g), gates.marks, slots, &mut stock);
+        // The living are counted when the gate's wires have their slots and none is given back.
+        peak = peak.max(stock.living());
+        release(deaths, g, slots, &mut stock);
     }
-    if slots[w] != UNSLOTTED {
-        return at;
+    Allocation {
+        length: stock.size,
+        peak,
     }
-    if top == 0 {
-        slots[w] = size;
-        return Level {
-            top,
-            size: size + 1,
-        };
-    }
-    let t = top - 1;
-    slots[w] = free[t];
-    Level { top: t, size }
 }
 
 // The mentions of a gate, in their order.
-fn allot(
-    mentions: &[u32],
-    from: usize,
-    to: usize,
-    marks: &[u8],
-    slots: &mut [u32],
-    free: &[u32; 8192],
-    start: Level,
-) -> Level
-    requires { (from ≤ to) × (to ≤ length mentions.now) × (to ≤ 16384) × Within (length slots.old) mentions.now × (length marks.now ≡ length slots.old) × (start.top ≤ 8192) × (start.size ≤ from) }
-    ensures { (pool_of slots.new free.now result ≡ meet_all marks.now (pool_of slots.old free.now start) (slice from to mentions.now)) × (result.top ≤ 8192) × (result.size ≤ to) }
+fn allot(gate: &[u32], marks: &[u8], slots: &mut [u32], stock: &mut Stock)
+    requires known { Within (length slots.old) gate.now }
+    requires marked { length marks.now ≡ length slots.old }
+    requires room { stock.old.size + length gate.now < 4294967295 }
+    ensures pool { pool_of slots.new stock.new ≡ meet_all marks.now (pool_of slots.old stock.old) gate.now }
 {
-    let mut at = start;
-    let mut j = from;
-    while j < to {
-        at = meet(wide(mentions[j]), marks, slots, free, at);
-        j += 1;
-    }
-    at
-}
-
-// The wires of a chain give their slots back, one after the other.
-fn release(
-    first: u32,
-    count: u32,
-    link: &[u32; 8192],
-    slots: &[u32],
-    free: &mut [u32; 8192],
-    full: Level,
-) -> Level
-    requires { (length free.old ≡ 8192) × (length slots.now ≤ 8192) × (full.top + count ≤ 8192) × ((x : ℕ) → member x (chain link.now count first) ≡ true → x < length slots.now) }
-    ensures { (pool_of slots.now free.new result ≡ gives (pool_of slots.now free.old full) (chain link.now count first)) × (result.top ≡ full.top + count) × (result.size ≡ full.size) × (length free.new ≡ 8192) }
-{
-    let mut top = full.top;
-    let mut w = first;
-    let mut left = count;
-    while 0 < left {
-        let i = wide(w);
-        free[top] = slots[i];
-        top += 1;
-        w = link[i];
-        left -= 1;
-    }
-    let size = full.size;
-    Level { top, size }
-}
-
-// The larger of the peak so far and the living: they have the slots that are not free.
-fn sample(peak: u32, full: Level) -> u32
-    requires { (full.top ≤ full.size) × (full.top ≤ 8192) }
-    ensures { result ≡ max peak (full.size - full.top) }
-{
-    let top = full.top;
-    let live = full.size - top as u32;
-    if peak < live { live } else { peak }
-}
-
-fn clear(slots: &mut [u32])
-    ensures { slots.new ≡ replicate (length slots.old) unslotted }
-{
-    let mut i = 0;
-    while i < slots.len() {
-        slots[i] = UNSLOTTED;
-        i += 1;
+    for wire in gate {
+        meet(*wire as usize, marks, slots, stock);
     }
 }
 
-// The gates in order, over cleared slots and the chains of the dying.
-fn pool_slots(
-    ends: &[u32],
-    mentions: &[u32],
-    marks: &[u8],
-    slots: &mut [u32],
-    head: &[u32; 8193],
-    link: &[u32; 8192],
-    count: &[u32; 8193],
-) -> Swept
-    requires { (accepted (length marks.now) ends.now mentions.now marks.now slots.old ≡ true) × (slots.old ≡ replicate (length marks.now) unslotted) × ((g : ℕ) → g < length ends.now → chain link.now (get_or count.now g 0) (get_or head.now g 0) ≡ dying (length marks.now) marks.now (gates_of ends.now mentions.now) g) }
-    ensures { (slots.new ≡ (pooled (length marks.now) marks.now (gates_of ends.now mentions.now) (length ends.now)).slots) × (result.length ≡ (pooled (length marks.now) marks.now (gates_of ends.now mentions.now) (length ends.now)).size) × (result.peak ≡ peak (length marks.now) marks.now (gates_of ends.now mentions.now)) }
+// One mention of a wire.
+fn meet(wire: usize, marks: &[u8], slots: &mut [u32], stock: &mut Stock)
+    requires marked { wire < length marks.now }
+    requires known { wire < length slots.old }
+    requires room { stock.old.size < 4294967295 }
+    ensures pool { pool_of slots.new stock.new ≡ meets marks.now (pool_of slots.old stock.old) wire }
+    ensures room { stock.new.size ≤ stock.old.size + 1 }
 {
-    let mut free = [0u32; 8192];
-    let mut at = Level { top: 0, size: 0 };
-    let mut peak = 0;
-    let mut from = 0;
-    let mut g = 0;
-    while g < ends.len() {
-        let to = wide(ends[g]);
-        let full = allot(mentions, from, to, marks, slots, &free, at);
-        at = release(head[g], count[g], link, slots, &mut free, full);
-        // The living are those of `full`, when the gate's wires have their slots and none is given back.
-        peak = sample(peak, full);
-        from = to;
-        g += 1;
+    if is_scratch(marks[wire]) && slots[wire] == UNSLOTTED {
+        slots[wire] = stock.take();
     }
-    let length = at.size;
-    Swept { length, peak }
 }
 
-// The pooled slots, how many were taken, and the peak. The work arrays are local, some 32 KiB each: three
-// here, one in `order_deaths` and one in `pool_slots`, of which one at a time is in use.
-pub fn sweep(ends: &[u32], mentions: &[u32], marks: &[u8], slots: &mut [u32]) -> Swept
-    requires { accepted (length marks.now) ends.now mentions.now marks.now slots.old ≡ true }
-    ensures { (slots.new ≡ (pooled (length marks.now) marks.now (gates_of ends.now mentions.now) (length ends.now)).slots) × (result.length ≡ (pooled (length marks.now) marks.now (gates_of ends.now mentions.now) (length ends.now)).size) × (result.peak ≡ peak (length marks.now) marks.now (gates_of ends.now mentions.now)) }
+// The wires that die at gate g give their slots back, one after the other: a chain is followed from wire to
+// wire, so the turns are counted.
+#[tactic(auto, using(crate::proofs::pooled::Steps::release_here))]
+fn release(deaths: &Deaths, g: usize, slots: &[u32], stock: &mut Stock)
+    requires gate { g < 8193 }
+    requires few { length slots.now ≤ 8192 }
+    requires known { (w : ℕ) → member w (died_at deaths.now g) ≡ true → w < length slots.now }
+    requires room { length stock.old.free + length (died_at deaths.now g) ≤ 8192 }
+    ensures { pool_of slots.now stock.new ≡ gives (pool_of slots.now stock.old) (died_at deaths.now g) }
 {
-    clear(slots);
-    let mut head = [0u32; 8193];
-    let mut link = [0u32; 8192];
-    let mut count = [0u32; 8193];
-    order_deaths(ends, mentions, marks, &mut head, &mut link, &mut count);
-    pool_slots(ends, mentions, marks, slots, &head, &link, &count)
+    let chain = deaths.chains[g];
+    let mut wire = chain.head as usize;
+    for _ in 0..chain.count {
+        stock.give(slots[wire]);
+        wire = deaths.link[wire] as usize;
+    }
 }

@@ -4,19 +4,17 @@ use mathlib.Core.Bool.{Bool, true, false, cond, ◌&&◌, ◌||◌, and-false, t
 use mathlib.Core.List.{List, [], ◌∷◌}
 use mathlib.Core.Logic.{◌⊎◌, inl, inr}
 use Prim.Native.Nat.{ℕ, zero, suc, ◌+◌, ◌-◌, ◌≤◌, ◌<◌}
-use native.Mathlib.Numerals.{add-one}
 use native.Mathlib.Omega.{arith}
 use lib.ListN.{length, get_or, set, drop, replicate, length-set, length-replicate, get_or-replicate}
-use lib.Seq.{get_or-set_same, get_or-set_other, drop-cons, drop-length, slice}
+use lib.Seq.{get_or-set_same, get_or-set_other, drop-cons, drop-length}
 use lib.Dec.{eqb}
 use borrow.Author.Tests.{eqb-false, eqb-true, eq-eqb, ne_eqb}
 use Rattle.common.specs.Lists.{member}
 use Rattle.scratch.specs.Gates.{gates_of, mentioned, last_at, scratch, among}
 use Rattle.scratch.specs.Policies.{dying}
-use Rattle.scratch.specs.Working.{stamped, stamped_to}
+use Rattle.scratch.specs.Working.Arrays.{stamped, stamped_to}
 use Rattle.scratch.proofs.Count.{among_ext}
-use Rattle.scratch.proofs.Parts.{slice_next, slice_end}
-use Rattle.scratch.proofs.Cut.{start, start_next, gates_length, gate_at}
+use Rattle.scratch.proofs.Cut.{gates_length}
 
 length-stamped : (g : ℕ) (last ws : List ℕ) → length (stamped g last ws) ≡ length last
 length-stamped g last [] = refl
@@ -111,40 +109,8 @@ module _ (gates : List (List ℕ)) (few : length gates ≤ 8192) where
       go (inr i) = omega arith
 
 -- the loop of `stamp` before mention j
-pub record Stamping (mentions last₀ : List ℕ) (g from to : ℕ) (last : List ℕ) (j : ℕ) : Type 0 where
-  pub begun : from ≤ j
-  pub within : j ≤ to
-  pub rest : stamped g last (slice j to mentions) ≡ stamped g last₀ (slice from to mentions)
-
-module _ {mentions last₀ : List ℕ} {g from to : ℕ} {last : List ℕ} {j : ℕ} (s : Stamping mentions last₀ g from to last j) where
-  pub stamp_more : {w : ℕ} → j < to → to ≤ length mentions → w ≡ get_or mentions j 0 → Stamping mentions last₀ g from to (set last w g) (j + 1)
-  stamp_more h l q =
-      record {
-        begun = omega (arith, s.begun);
-        within = omega arith;
-        rest = ap (λ (v : ℕ). stamped g (set last v g) (slice (j + 1) to mentions)) q ∙ sym (ap (stamped g last) (slice_next mentions j to h l)) ∙ s.rest;
-      }
-
-  pub stamp_done : to ≤ j → last ≡ stamped g last₀ (slice from to mentions)
-  stamp_done l = sym (ap (stamped g last) (slice_end mentions j to s.within l)) ∙ s.rest
-
--- the loop of `last_mentions` before gate g
-pub record Stamped (ends mentions last₀ last : List ℕ) (from g : ℕ) : Type 0 where
-  pub within : g ≤ length ends
-  pub begun : from ≡ start 0 ends g
-  pub done : last ≡ stamped_to (gates_of ends mentions) g last₀
-
-module _ {ends mentions last₀ last : List ℕ} {from g : ℕ} (s : Stamped ends mentions last₀ last from g) where
-  pub gate_stamped : {to : ℕ} {last' : List ℕ} → g < length ends → to ≡ get_or ends g 0 → last' ≡ stamped g last (slice from to mentions) → Stamped ends mentions last₀ last' to (g + 1)
-  gate_stamped {to} h t e =
-      record {
-        within = omega arith;
-        begun = start_next ends g to t;
-        done = rw (add-one, gate_at 0 ends mentions g h, ← s.done, ← s.begun, ← t) e;
-      }
-
-  pub all_stamped : length ends ≤ g → last ≡ stamped_to (gates_of ends mentions) (length ends) last₀
-  all_stamped l = let e : g ≡ length ends = omega (arith, s.within) in s.done ∙ ap (λ (k : ℕ). stamped_to (gates_of ends mentions) k last₀) e
+abbrev pub Stamping : List ℕ → List ℕ → ℕ → List ℕ → ℕ → Type 0
+Stamping gate last₀ g last j = stamped g last (drop j gate) ≡ stamped g last₀ gate
 
 -- the stamps after all gates
 module _ (ends mentions marks : List ℕ) (few : length ends ≤ 8192) (last : List ℕ) (e : last ≡ stamped_to (gates_of ends mentions) (length ends) (replicate 8192 8192)) where

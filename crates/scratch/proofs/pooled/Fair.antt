@@ -30,10 +30,6 @@ pub record Fair (n : ℕ) (act later : ℕ → Bool) (p : Pool) : Type 0 where
 abbrev pub act : List ℕ → (ℕ → Bool) → ℕ → Bool
 act marks seen w = scratch marks w && seen w
 
-bit-zero : (b : Bool) → bit b ≡ 0 → b ≡ false
-bit-zero true e = absurd (omega arith)
-bit-zero false e = refl
-
 pub below : (r k : ℕ) → r < suc k → (r ≡ k) ⊎ (r < k)
 below r k h = go (eqb r k) refl
   where

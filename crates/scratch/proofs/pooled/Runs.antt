@@ -1,153 +1,110 @@
--- One gate of `pool_slots`, over what the code holds. Assumes nothing.
+-- One gate of `share`, over what the code holds. Assumes nothing.
 use mathlib.Core.Path.{◌≡◌, refl, sym, ap, ◌∙◌, subst}
 use mathlib.Core.Bool.{true, ◌&&◌}
 use mathlib.Core.List.{List, [], ◌∷◌}
-use Prim.Native.Nat.{ℕ, zero, suc, ◌+◌, ◌-◌, ◌≤◌, ◌<◌, max}
+use Prim.Native.Nat.{ℕ, suc, ◌+◌, ◌-◌, ◌≤◌, ◌<◌, max}
 use native.Mathlib.Numerals.{add-one}
 use native.Mathlib.Omega.{arith}
-use lib.ListN.{length, get_or, replicate}
-use lib.Seq.{slice}
+use lib.ListN.{length, get_or, replicate, length-replicate}
+use Rattle.std.specs.Ordering.{ord_max, nat_cmp}
+use Rattle.std.proofs.lemmas.Bool.Decides.{nat_tests}
 use Rattle.common.specs.Lists.{member}
-use Rattle.scratch.specs.declared.pooled.Level.{Level}
-use Rattle.scratch.specs.Gates.{gates_of, scratch, last_at, alive, peak_to, peak}
-use Rattle.scratch.specs.Accept.{accepted}
+use Rattle.scratch.specs.declared.deaths.Deaths.{Deaths}
+use Rattle.scratch.specs.declared.judge.GateList.{GateList}
+use Rattle.scratch.specs.declared.stock.Stock.{Stock}
+use Rattle.scratch.specs.Gates.{scratch, last_at, alive, peak_to, peak}
 use Rattle.scratch.specs.Policies.{unslotted, Pool, meet_all, give_all, gives, dying, pooled}
-use Rattle.scratch.specs.Working.{stack, pool_of, chain, Within}
-use Rattle.common.proofs.Below.{below_at}
-use Rattle.scratch.proofs.Cut.{Good, good, small, inside, close_at, start_next, start, gates_length, gate_at}
-use Rattle.scratch.proofs.deaths.Chains.{among_from, length-chain}
+use Rattle.scratch.specs.Working.{gates_in, wires_in, pool_of, died_at, Ordered}
+use Rattle.scratch.proofs.Cut.{small, inside, gates_length}
+use Rattle.scratch.proofs.GateLists.{good_list}
+use Rattle.scratch.proofs.deaths.Chains.{among_from}
 use Rattle.scratch.proofs.pooled.EachGate.{free_small, living_slots}
 
-length-stack : (xs : List ℕ) (k : ℕ) → length (stack xs k) ≡ k
-length-stack xs zero = refl
-length-stack xs (suc k) = ap suc (length-stack xs k)
+-- what `max` answers
+pub larger : (a b : ℕ) → ord_max nat_cmp a b ≡ max a b
+larger a b = grind (arith, nat_tests)
 
 length_give : (slots free ws : List ℕ) → length (give_all slots free ws) ≡ length free + length ws
 length_give slots free [] = omega arith
 length_give slots free (w ∷ ws) = omega (arith, length_give slots (get_or slots w 0 ∷ free) ws)
 
 -- before gate g: the pool of the definition, and its peak so far
-pub record Running (ends mentions marks slots₀ slots free : List ℕ) (at : Level) (peak from g : ℕ) : Type 0 where
-  pub ok : Good (length marks) ends mentions marks slots₀
-  pub seen : g ≤ length ends
-  pub begun : from ≡ start 0 ends g
-  pub kept : length slots ≡ length slots₀
-  pub stacked : length free ≡ 8192
-  pub low : at.top ≤ 8192
-  pub few : at.size ≤ from
-  pub pool : pool_of slots free at ≡ pooled (length marks) marks (gates_of ends mentions) g
-  pub most : peak ≡ peak_to (length marks) marks (gates_of ends mentions) g
+pub record Running (list : GateList) (slots : List ℕ) (stock : Stock) (most g : ℕ) : Type 0 where
+  pub kept : length slots ≡ wires_in list
+  pub pool : pool_of slots stock ≡ pooled (wires_in list) list.marks.now (gates_in list) g
+  pub sampled : most ≡ peak_to (wires_in list) list.marks.now (gates_in list) g
 
--- after the mentions of gate g, which ends at `to`
-pub record Full (ends mentions marks slots₀ slots free : List ℕ) (full : Level) (to g : ℕ) : Type 0 where
-  pub ok : Good (length marks) ends mentions marks slots₀
-  pub seen : g < length ends
-  pub ended : to ≡ get_or ends g 0
-  pub kept : length slots ≡ length slots₀
-  pub stacked : length free ≡ 8192
-  pub few : full.size ≤ to
-  pub pool : pool_of slots free full ≡ meet_all marks (pooled (length marks) marks (gates_of ends mentions) g) (get_or (gates_of ends mentions) g [])
-
-pub run_start : (ends mentions marks slots free : List ℕ) → accepted (length marks) ends mentions marks slots ≡ true → slots ≡ replicate (length marks) unslotted → length free ≡ 8192
-    → Running ends mentions marks slots slots free (record { top = 0; size = 0 }) 0 0 0
+pub run_start : (list : GateList) (slots : List ℕ) (stock : Stock) → slots ≡ replicate (wires_in list) unslotted → stock.free ≡ [] → stock.size ≡ 0 → Running list slots stock 0 0
 unfolding pooled peak_to
-run_start ends mentions marks slots free y e f =
-    record {
-      ok = good (length marks) ends mentions marks slots y;
-      seen = omega arith;
-      begun = refl;
-      kept = refl;
-      stacked = f;
-      low = omega arith;
-      few = omega arith;
-      pool = ap (λ (l : List ℕ). pool_of l free (record { top = 0; size = 0 })) e;
-      most = refl;
-    }
+run_start list slots stock e f z = record { kept = ap length e ∙ length-replicate {A = ℕ} (wires_in list) unslotted; pool = rw (e, f, z); sampled = refl }
 
-module _ {ends mentions marks slots₀ slots free : List ℕ} {at : Level} {most from g : ℕ} (r : Running ends mentions marks slots₀ slots free at most from g) where
-  -- what `allot` asks of the next gate
-  pub gate_ends : (to : ℕ) → g < length ends → to ≡ get_or ends g 0 → (from ≤ to) × (to ≤ length mentions)
-  gate_ends to h e = let k = close_at 0 (length mentions) ends g r.ok.cut h in let q = r.begun in (omega arith, omega arith)
+-- at gate g, when its wires have their slots and none is given back
+pub record Full (list : GateList) (slots : List ℕ) (stock : Stock) (g : ℕ) : Type 0 where
+  pub seen : g < length list.ends.now
+  pub kept : length slots ≡ wires_in list
+  pub pool : pool_of slots stock ≡ meet_all list.marks.now (pooled (wires_in list) list.marks.now (gates_in list) g) (get_or (gates_in list) g [])
 
-  pub mentions_slotted : Within (length slots) mentions
-  mentions_slotted i l = omega (arith, below_at (length marks) mentions i r.ok.inside l, r.ok.slotted, r.kept)
+module _ {list : GateList} {slots : List ℕ} {stock : Stock} {most g : ℕ} (r : Running list slots stock most g) where
+  -- there are no more slots than wires
+  pub few_slots : g ≤ length list.ends.now → stock.size ≤ 8192
+  few_slots h =
+      let s = free_small (wires_in list) (small (good_list list)) list.marks.now (gates_in list) (inside (good_list list)) g (omega (arith, gates_length 0 list.ends.now list.mentions.now)) in
+      omega (arith, s, ap (λ (p : Pool). p.size) r.pool, list.few_wires)
 
-  pub filled : {slots' : List ℕ} {full : Level} {to : ℕ} → g < length ends → to ≡ get_or ends g 0 → length slots' ≡ length slots
-      → pool_of slots' free full ≡ meet_all marks (pool_of slots free at) (slice from to mentions) → full.size ≤ to → Full ends mentions marks slots₀ slots' free full to g
-  filled {to = to} h e l m f =
-      let q : slice from to mentions ≡ get_or (gates_of ends mentions) g [] = rw (gate_at 0 ends mentions g h, r.begun, e) in
+  pub filled : {slots' gate : List ℕ} {stock' : Stock} → g < length list.ends.now → gate ≡ get_or (gates_in list) g [] → length slots' ≡ length slots
+      → pool_of slots' stock' ≡ meet_all list.marks.now (pool_of slots stock) gate → Full list slots' stock' g
+  filled h e l m =
       record {
-        ok = r.ok;
         seen = h;
-        ended = e;
         kept = l ∙ r.kept;
-        stacked = r.stacked;
-        few = f;
-        pool = m ∙ ap (λ (p : Pool). meet_all marks p (slice from to mentions)) r.pool ∙ ap (meet_all marks (pooled (length marks) marks (gates_of ends mentions) g)) q;
+        pool = m ∙ ap (meet_all list.marks.now (pool_of slots stock)) e ∙ ap (λ (p : Pool). meet_all list.marks.now p (get_or (gates_in list) g [])) r.pool;
       }
 
-  pub run_end : length ends ≤ g
-      → (slots ≡ (pooled (length marks) marks (gates_of ends mentions) (length ends)).slots)
-      × (at.size ≡ (pooled (length marks) marks (gates_of ends mentions) (length ends)).size)
-      × (most ≡ peak (length marks) marks (gates_of ends mentions))
-  run_end l =
-      let q : g ≡ length ends = omega (arith, r.seen) in
-      let e = r.pool ∙ ap (pooled (length marks) marks (gates_of ends mentions)) q in
-      (ap (λ (p : Pool). p.slots) e, ap (λ (p : Pool). p.size) e, r.most ∙ ap (peak_to (length marks) marks (gates_of ends mentions)) (q ∙ sym (gates_length 0 ends mentions)))
+  pub run_end : length list.ends.now ≤ g → g ≤ length list.ends.now → most ≡ peak (wires_in list) list.marks.now (gates_in list)
+  run_end l h =
+      let q : g ≡ length (gates_in list) = omega (arith, gates_length 0 list.ends.now list.mentions.now) in
+      r.sampled ∙ ap (peak_to (wires_in list) list.marks.now (gates_in list)) q
 
-module _ {ends mentions marks slots₀ slots free : List ℕ} {full : Level} {to g : ℕ} (f : Full ends mentions marks slots₀ slots free full to g) where
-  before_end : g < length (gates_of ends mentions)
-  before_end = omega (arith, f.seen, gates_length 0 ends mentions)
+module _ {list : GateList} {slots : List ℕ} {stock : Stock} {g : ℕ} (f : Full list slots stock g) where
+  before_end : g < length (gates_in list)
+  before_end = omega (arith, f.seen, gates_length 0 list.ends.now list.mentions.now)
 
   -- the slots that are not free are those of the living
-  pub living : full.top + length (alive (length marks) marks (gates_of ends mentions) g) ≡ full.size
+  pub living : length stock.free + length (alive (wires_in list) list.marks.now (gates_in list) g) ≡ stock.size
   living =
       omega (
         arith,
-        length-stack free full.top,
         ap (λ (p : Pool). length p.free) f.pool,
         ap (λ (p : Pool). p.size) f.pool,
-        living_slots (length marks) (small f.ok) marks (gates_of ends mentions) (inside f.ok) g before_end,
+        living_slots (wires_in list) (small (good_list list)) list.marks.now (gates_in list) (inside (good_list list)) g before_end,
       )
 
-  pub sampled : {most most' : ℕ} → most ≡ peak_to (length marks) marks (gates_of ends mentions) g → most' ≡ max most (full.size - full.top)
-      → most' ≡ peak_to (length marks) marks (gates_of ends mentions) (g + 1)
+  pub sample : {most most' : ℕ} → most ≡ peak_to (wires_in list) list.marks.now (gates_in list) g → most' ≡ max most (stock.size - length stock.free)
+      → most' ≡ peak_to (wires_in list) list.marks.now (gates_in list) (g + 1)
   unfolding peak_to
-  sampled {most} {most'} e s = rw add-one (omega (arith, living))
+  sample {most} {most'} e s = rw add-one (omega (arith, living))
 
-  module _ (link : List ℕ) (c w : ℕ) (d : chain link c w ≡ dying (length marks) marks (gates_of ends mentions) g) where
-    given_back : gives (pool_of slots free full) (chain link c w) ≡ pooled (length marks) marks (gates_of ends mentions) (suc g)
+  module _ (deaths : Deaths) (d : Ordered list deaths) where
+    given_back : gives (pool_of slots stock) (died_at deaths g) ≡ pooled (wires_in list) list.marks.now (gates_in list) (suc g)
     unfolding pooled
     given_back =
-        ap (λ (p : Pool). gives p (chain link c w)) f.pool
-        ∙ ap (gives (meet_all marks (pooled (length marks) marks (gates_of ends mentions) g) (get_or (gates_of ends mentions) g []))) d
+        ap (λ (p : Pool). gives p (died_at deaths g)) f.pool
+        ∙ ap (gives (meet_all list.marks.now (pooled (wires_in list) list.marks.now (gates_in list) g) (get_or (gates_in list) g []))) (d g f.seen)
 
     -- what was taken has room for all that is given back
-    pub stack_room : (full.top + c ≤ full.size) × (full.size ≤ 8192)
-    stack_room =
-        let r = free_small (length marks) (small f.ok) marks (gates_of ends mentions) (inside f.ok) (suc g) before_end in
-        let s = ap (λ (p : Pool). p.size) given_back in
-        let l = ap (λ (p : Pool). length p.free) given_back in
-        (omega (arith, length_give slots (stack free full.top) (chain link c w), length-stack free full.top, length-chain link c w), omega (arith, f.ok.few))
+    pub stock_room : length stock.free + length (died_at deaths g) ≤ 8192
+    stock_room =
+        let r = free_small (wires_in list) (small (good_list list)) list.marks.now (gates_in list) (inside (good_list list)) (suc g) before_end in
+        omega (arith, r, list.few_wires, ap (λ (p : Pool). length p.free) given_back, length_give slots stock.free (died_at deaths g))
 
-    dying_inside : (x : ℕ) → member x (dying (length marks) marks (gates_of ends mentions) g) ≡ true → x < length marks
+    dying_inside : (x : ℕ) → member x (dying (wires_in list) list.marks.now (gates_in list) g) ≡ true → x < wires_in list
     unfolding dying
-    dying_inside x m = omega (arith, among_from (λ w. scratch marks w && last_at (gates_of ends mentions) g w) 0 (length marks) x m)
+    dying_inside x m = omega (arith, among_from (λ w. scratch list.marks.now w && last_at (gates_in list) g w) 0 (wires_in list) x m)
 
-    pub chain_slotted : (x : ℕ) → member x (chain link c w) ≡ true → x < length slots
-    chain_slotted x t = omega (arith, dying_inside x (subst (λ (l : List ℕ). member x l ≡ true) d t), f.kept, f.ok.slotted)
+    pub dead_slotted : (x : ℕ) → member x (died_at deaths g) ≡ true → x < length slots
+    dead_slotted x t = omega (arith, dying_inside x (subst (λ (l : List ℕ). member x l ≡ true) (d g f.seen) t), f.kept)
 
-    pub run_next : {free' : List ℕ} {at : Level} {most : ℕ} → pool_of slots free' at ≡ gives (pool_of slots free full) (chain link c w) → at.top ≡ full.top + c → at.size ≡ full.size → length free' ≡ 8192
-        → most ≡ peak_to (length marks) marks (gates_of ends mentions) (g + 1) → Running ends mentions marks slots₀ slots free' at most to (g + 1)
-    run_next p t z l m =
-        record {
-          ok = f.ok;
-          seen = omega (arith, f.seen);
-          begun = start_next ends g to f.ended;
-          kept = f.kept;
-          stacked = l;
-          low = omega (arith, stack_room);
-          few = omega (arith, f.few);
-          pool = p ∙ given_back ∙ ap (pooled (length marks) marks (gates_of ends mentions)) (sym (add-one g));
-          most = m;
-        }
+    pub run_next : {stock' : Stock} {most : ℕ} → pool_of slots stock' ≡ gives (pool_of slots stock) (died_at deaths g)
+        → most ≡ peak_to (wires_in list) list.marks.now (gates_in list) (g + 1) → Running list slots stock' most (g + 1)
+    run_next p m =
+        record { kept = f.kept; pool = p ∙ given_back ∙ ap (pooled (wires_in list) list.marks.now (gates_in list)) (sym (add-one g)); sampled = m }

@@ -1,16 +1,20 @@
 -- `per_wire::slot_per_wire` meets its contract. Assumes nothing.
-use Rattle.std.proofs.Common.{◌<◌, length, arith}
-use Rattle.scratch.proofs.per_wire.Numbers.{number_skip, number_more, number_small}
+use Rattle.std.proofs.Common.{◌+◌, ◌<◌, length, sym, ◌∙◌, arith}
+use Rattle.scratch.proofs.per_wire.Numbers.{number_none, number_next, number_small, number_as}
 use Rattle.scratch.proofs.per_wire.slot_per_wire.Goals as goal
-use Rattle.scratch.proofs.per_wire.slot_per_wire.Goals.{then-marks-i-eq0, else-marks-i-eq0}
+use Rattle.scratch.proofs.per_wire.slot_per_wire.Goals.{then-is_scratch, else-is_scratch}
 
 pub overflow_add-next : goal.overflow_add-next
-overflow_add-next c = omega (arith, number_small c.args.marks.now c.loop-i.slots c.loop-i.i c.loop-i.next c.loop-i.invariant.made)
+overflow_add-next c = omega (arith, number_small _ c.loop-wire.slots c.loop-wire.wire c.loop-wire.next c.loop-wire.invariant, c.args.gates.now.few_wires)
 
-pub loop-i-preserved : goal.loop-i-preserved
-loop-i-preserved c =
-    let h : c.loop-i.i < length c.args.marks.now = omega arith in
-    elim c.if-marks-i-eq0.branch [
-      | then-marks-i-eq0 w ↦ number_skip c.loop-i.invariant h (omega arith) w.if-marks-i-eq0.true w.slots-is w.next-is
-      | else-marks-i-eq0 w ↦ number_more c.loop-i.invariant h (omega arith) w.if-marks-i-eq0.false w.slots-is w.next-is
+pub loop-wire-preserved : goal.loop-wire-preserved
+loop-wire-preserved c =
+    let l : c.loop-wire.wire < length c.loop-wire.slots = omega arith in
+    elim c.if-is_scratch.branch [
+      | then-is_scratch w ↦
+          number_as c.args.gates.now.marks.now _ _ (c.loop-wire.wire + 1) _ _ w.slots-is w.next-is
+          (number_next c.args.gates.now.marks.now c.loop-wire.slots c.loop-wire.wire c.loop-wire.next c.loop-wire-test.true l c.loop-wire.invariant (sym c.is_scratch.ensures ∙ w.if-is_scratch.true))
+      | else-is_scratch w ↦
+          number_as c.args.gates.now.marks.now _ _ (c.loop-wire.wire + 1) _ _ w.slots-is w.next-is
+          (number_none c.args.gates.now.marks.now c.loop-wire.slots c.loop-wire.wire c.loop-wire.next c.loop-wire-test.true l c.loop-wire.invariant (sym c.is_scratch.ensures ∙ w.if-is_scratch.false))
     ]

@@ -1,2 +1,0 @@
--- Laws of the functions of `accept`.
-pub mod Loops

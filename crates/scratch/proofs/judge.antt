@@ -1,0 +1,2 @@
+-- Laws of the functions of `judge`.
+pub mod Loops
