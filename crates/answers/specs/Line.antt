@@ -1,10 +1,7 @@
 -- The form of a line, and what it says. Assumes nothing.
-use Rattle.std.specs.Prelude.{ℕ, suc, ◌-◌, ◌%◌, Bool, true, cond, ◌&&◌, ◌||◌, List, [], ◌∷◌, length, take, drop, ◌==◌, nat_le, nat_lt, slice_index}
+use Rattle.std.specs.Prelude.{ℕ, suc, ◌+◌, ◌-◌, ◌*◌, ◌%◌, Bool, true, cond, ◌&&◌, ◌||◌, List, [], ◌∷◌, Option, None, Some, length, take, drop, ◌==◌, nat_le, nat_lt, slice_index}
 use Rattle.answers.specs.Hex.{spelled}
-use Rattle.answers.specs.declared.line.WordsRead.{WordsRead}
-use Rattle.answers.specs.declared.line.WordsRead.TheVariants as W
-use Rattle.answers.specs.declared.line.NumbersRead.{NumbersRead}
-use Rattle.answers.specs.declared.line.NumbersRead.TheVariants as N
+use Rattle.answers.specs.declared.line.Line.{Line}
 
 -- `0` to `9`, `a` to `f`
 abbrev pub is_digit : ℕ → Bool
@@ -27,30 +24,24 @@ is_line apart text = slice_index text (length text - 1) == 10 && all_right apart
 abbrev pub code_of : List ℕ → ℕ
 code_of text = spelled 0 (take 2 (drop 0 text)) % 256
 
--- fields of sixteen digits begin at 3, 20, 37, 54, 71
-abbrev pub words_of : List ℕ → WordsRead
-words_of text =
-    cond (is_line 17 text)
-    (W.Line (record {
+-- what a text says whose fields begin so far apart, the first at 3, each by what is read from its place; nothing where it has another form
+abbrev pub line_of : {A : Type 0} → (apart : ℕ) → (ℕ → A) → List ℕ → Option (Line A)
+line_of apart field text =
+    cond (is_line apart text)
+    (Some (record {
       code = code_of text;
-      a = spelled 0 (take 16 (drop 3 text));
-      b = spelled 0 (take 16 (drop 20 text));
-      c = spelled 0 (take 16 (drop 37 text));
-      d = spelled 0 (take 16 (drop 54 text));
-      e = spelled 0 (take 16 (drop 71 text));
+      a = field 3;
+      b = field (3 + apart);
+      c = field (3 + 2 * apart);
+      d = field (3 + 3 * apart);
+      e = field (3 + 4 * apart);
     }))
-    W.End
+    None
+
+-- fields of sixteen digits begin at 3, 20, 37, 54, 71
+abbrev pub words_of : List ℕ → Option (Line ℕ)
+words_of text = line_of 17 (λ at. spelled 0 (take 16 (drop at text))) text
 
 -- fields of eight digits begin at 3, 12, 21, 30, 39
-abbrev pub numbers_of : List ℕ → NumbersRead
-numbers_of text =
-    cond (is_line 9 text)
-    (N.Line (record {
-      code = code_of text;
-      a = spelled 0 (take 8 (drop 3 text)) % 4294967296;
-      b = spelled 0 (take 8 (drop 12 text)) % 4294967296;
-      c = spelled 0 (take 8 (drop 21 text)) % 4294967296;
-      d = spelled 0 (take 8 (drop 30 text)) % 4294967296;
-      e = spelled 0 (take 8 (drop 39 text)) % 4294967296;
-    }))
-    N.End
+abbrev pub numbers_of : List ℕ → Option (Line ℕ)
+numbers_of text = line_of 9 (λ at. spelled 0 (take 8 (drop at text)) % 4294967296) text

@@ -1,13 +1,11 @@
 -- What agrees, counted; bytes and words compared and stored. Assumes nothing.
-use Rattle.std.specs.Prelude.{ℕ, zero, suc, ◌+◌, ◌*◌, ◌/◌, ◌%◌, ◌^◌, Bool, true, false, cond, ◌&&◌, List, [], ◌∷◌, set, ◌==◌, slice_index, slice_set}
+use Rattle.std.specs.Prelude.{ℕ, zero, suc, ◌+◌, ◌*◌, ◌/◌, ◌%◌, ◌^◌, Bool, true, false, cond, ◌&&◌, List, [], ◌∷◌, get_or, set, ◌==◌}
+use Rattle.std.specs.List.{list_all, enumerate_from}
+use Rattle.answers.specs.declared.tally.Tally.{Tally}
 
--- n more at a place
-abbrev pub added : List ℕ → ℕ → ℕ → List ℕ
-added tally at n = slice_set tally at ((slice_index tally at + n) % 2 ^ 64)
-
--- one case more at the place after, and where it agrees one more at the place
-abbrev pub noted : List ℕ → ℕ → Bool → List ℕ
-noted tally place agrees = added (added tally place (cond agrees 1 0)) (place + 1) 1
+-- one case more, and where it agrees one more that agrees
+abbrev pub noted : Tally → Bool → Tally
+noted tally agrees = record { agree = (tally.agree + cond agrees 1 0) % 2 ^ 64; all = (tally.all + 1) % 2 ^ 64 }
 
 -- rotated left by five bits, the word added, and 1, each within a word
 abbrev pub sum_after : (sum word : ℕ) → ℕ
@@ -20,10 +18,14 @@ same (suc n) [] ys = false
 same (suc n) (x ∷ xs) [] = false
 same (suc n) (x ∷ xs) (y ∷ ys) = x == y && same n xs ys
 
+-- the values stand in the list from a place on, where past its end there is another value
+abbrev pub stand : {A : Type 0} → (A → A → Bool) → List A → ℕ → A → List A → Bool
+stand eq list place otherwise values = list_all (λ p. eq (get_or list (place + p.0) otherwise) p.1) (enumerate_from 0 values)
+
 -- the four bytes of a number from a place on, the most significant first
 abbrev pub four_at : List ℕ → (at four : ℕ) → List ℕ
 four_at bytes at four =
     set
-    (slice_set (slice_set (slice_set bytes at (four / 16777216 % 256)) (at + 1) (four / 65536 % 256)) (at + 2) (four / 256 % 256))
+    (set (set (set bytes at (four / 16777216 % 256)) (at + 1) (four / 65536 % 256)) (at + 2) (four / 256 % 256))
     (at + 3)
     (four % 256)

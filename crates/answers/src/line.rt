@@ -1,117 +1,85 @@
 //! A line of a list: a code of two hexadecimal digits, then five fields of sixteen digits (a line of
 //! words) or of eight (a line of numbers), in lower case, with a space before each field and a line feed
 //! at the end.
-ghost use Rattle.std.specs.Prelude.{◌≡◌, ◌%◌, ◌<◌, take, drop};
+ghost use Rattle.std.specs.Prelude.{◌≡◌, ℕ, ◌+◌, ◌∷◌, [], take, drop};
 ghost use Rattle.answers.specs.Hex.{digit_of, spelled};
-ghost use Rattle.answers.specs.Line.{is_digit, is_right, all_right, is_line, words_of, numbers_of};
+ghost use Rattle.answers.specs.Line.{is_digit, is_right, all_right, is_line, line_of, words_of, numbers_of};
 
-#[derive(Clone, Copy)]
-pub struct Words {
+// A line's code and its five fields. A code is a number and no enum of kinds: each list has codes of its
+// own, and the program that replays it matches them.
+#[derive(Clone, Copy, PartialEq, Eq, Debug)]
+pub struct Line<T> {
     pub code: u8,
-    pub a: u64,
-    pub b: u64,
-    pub c: u64,
-    pub d: u64,
-    pub e: u64,
+    pub a: T,
+    pub b: T,
+    pub c: T,
+    pub d: T,
+    pub e: T,
 }
 
-#[derive(Clone, Copy)]
-pub struct Numbers {
-    pub code: u8,
-    pub a: u32,
-    pub b: u32,
-    pub c: u32,
-    pub d: u32,
-    pub e: u32,
+impl<T: Copy> Line<T> {
+    // The last four fields, which many lines store or compare from the place on that the first names.
+    pub fn entries(self) -> [T; 4]
+        ensures { result ≡ (self.b ∷ self.c ∷ self.d ∷ self.e ∷ []) }
+    {
+        [self.b, self.c, self.d, self.e]
+    }
 }
 
-// A text of another form ends the list as its end does, so that fewer cases are told than there should
-// be.
-#[derive(Drop)]
-pub enum WordsRead {
-    Line(Words),
-    End,
-}
-
-#[derive(Drop)]
-pub enum NumbersRead {
-    Line(Numbers),
-    End,
-}
-
-// What a line of words says.
-pub fn words_of(text: &[u8]) -> WordsRead
+// What a line of words says. A text of another form says nothing: it ends the list as its end does, so
+// that fewer cases are told than there should be.
+pub fn words_of(text: &[u8]) -> Option<Line<u64>>
     ensures { result ≡ words_of text.now }
 {
-    if !is_line(text, 17) {
-        return WordsRead::End;
-    }
-    WordsRead::Line(Words {
-        code: code(text),
-        a: hex(text, 3, 16),
-        b: hex(text, 20, 16),
-        c: hex(text, 37, 16),
-        d: hex(text, 54, 16),
-        e: hex(text, 71, 16),
-    })
+    line_of(text, 16, |number| number)
 }
 
-// What a line of numbers says.
-pub fn numbers_of(text: &[u8]) -> NumbersRead
+// What a line of numbers says, likewise.
+pub fn numbers_of(text: &[u8]) -> Option<Line<u32>>
     ensures { result ≡ numbers_of text.now }
 {
-    if !is_line(text, 9) {
-        return NumbersRead::End;
+    line_of(text, 8, |number| (number & 0xffff_ffff) as u32)
+}
+
+// A line whose fields have so many digits each, and what is made of the number that they spell.
+fn line_of<T, F: Fn(u64) -> T>(text: &[u8], digits: u8, made: F) -> Option<Line<T>>
+    requires { F.IsAlwaysCallable made }
+    ensures { (g : ℕ → T) → ((number : ℕ) (value : T) → F.post made number value → value ≡ g number) →
+        result ≡ line_of (digits + 1) (λ at. g (spelled 0 (take digits (drop at text.now)))) text.now }
+{
+    if !is_line(text, digits) {
+        return None;
     }
-    NumbersRead::Line(Numbers {
-        code: code(text),
-        a: number(text, 3),
-        b: number(text, 12),
-        c: number(text, 21),
-        d: number(text, 30),
-        e: number(text, 39),
+    let digits = usize::from(digits);
+    let apart = digits + 1;
+    let field = |at| made(hex(text, at, digits));
+    Some(Line {
+        code: (hex(text, 0, 2) & 0xff) as u8,
+        a: field(3),
+        b: field(3 + apart),
+        c: field(3 + 2 * apart),
+        d: field(3 + 3 * apart),
+        e: field(3 + 4 * apart),
     })
 }
 
-fn code(text: &[u8]) -> u8
-    ensures { result ≡ spelled 0 (take 2 (drop 0 text.now)) % 256 }
+// The text has the form of a line whose fields have so many digits each.
+fn is_line(text: &[u8], digits: u8) -> bool
+    ensures { result ≡ is_line (digits + 1) text.now }
 {
-    (hex(text, 0, 2) % 256) as u8
+    match text.split_last() {
+        Some((last, before)) => *last == b'\n' && all_right(before, digits),
+        None => false,
+    }
 }
 
-fn number(text: &[u8], at: usize) -> u32
-    ensures { result ≡ spelled 0 (take 8 (drop at text.now)) % 4294967296 }
+fn all_right(text: &[u8], digits: u8) -> bool
+    ensures { result ≡ all_right (digits + 1) 0 text.now }
 {
-    (hex(text, at, 8) % 4294967296) as u32
-}
-
-// The text has the form of a line whose fields begin so far apart.
-fn is_line(text: &[u8], apart: usize) -> bool
-    requires { 0 < apart }
-    ensures { result ≡ is_line apart text.now }
-{
-    if text.len() == 0 {
-        return false;
-    }
-    let last = text.len() - 1;
-    if text[last] != b'\n' {
-        return false;
-    }
-    all_right(&text[0..last], apart)
-}
-
-fn all_right(text: &[u8], apart: usize) -> bool
-    requires { 0 < apart }
-    ensures { result ≡ all_right apart 0 text.now }
-{
-    let mut i = 0;
-    while i < text.len() {
-        if !is_right(i % apart, text[i]) {
-            return false;
-        }
-        i += 1;
-    }
-    true
+    let apart = usize::from(digits) + 1;
+    text.iter()
+        .enumerate()
+        .all(|(i, byte)| is_right(i % apart, *byte))
 }
 
 fn is_right(place: usize, byte: u8) -> bool
@@ -127,47 +95,26 @@ fn is_right(place: usize, byte: u8) -> bool
 fn is_digit(byte: u8) -> bool
     ensures { result ≡ is_digit byte }
 {
-    (48 <= byte) & (byte < 58) | (97 <= byte) & (byte < 103)
+    matches!(byte, b'0'..=b'9' | b'a'..=b'f')
 }
 
 // What the digits from `at` on spell, as many of them as there are, up to `digits`.
 pub fn hex(text: &[u8], at: usize, digits: usize) -> u64
     ensures { result ≡ spelled 0 (take digits (drop at text.now)) }
 {
-    if text.len() <= at {
-        return 0;
-    }
-    spell(&text[at..], digits)
-}
-
-fn spell(text: &[u8], digits: usize) -> u64
-    ensures { result ≡ spelled 0 (take digits text.now) }
-{
-    let mut value = 0;
-    let mut i = 0;
-    while i < digits {
-        if text.len() <= i {
-            return value;
-        }
-        value = std::num::wrapping_add_u64(value << 4, digit(text[i]));
-        i += 1;
-    }
-    value
+    text.iter()
+        .skip(at)
+        .take(digits)
+        .fold(0, |value, byte| (value << 4).wrapping_add(digit(*byte)))
 }
 
 // The value of a digit. Another byte counts as 0.
 fn digit(byte: u8) -> u64
     ensures { result ≡ digit_of byte }
 {
-    if byte < 48 {
-        0
-    } else if byte < 58 {
-        (byte - 48) as u64
-    } else if byte < 97 {
-        0
-    } else if byte < 103 {
-        (byte - 87) as u64
-    } else {
-        0
+    match byte {
+        b'0'..=b'9' => u64::from(byte - b'0'),
+        b'a'..=b'f' => u64::from(byte - b'a' + 10),
+        _ => 0,
     }
 }

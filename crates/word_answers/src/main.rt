@@ -4,171 +4,131 @@
 // oracle/README.md how to make it anew. What hints 1 to 3 answer there is the harness's own.
 #![tactic(auto)]
 
-use answers::{Words, WordsRead};
+use answers::{Line, Tally};
 use std::io;
-use std::io::Read;
+use word::{arithmetic, assertions, bitwise, hints};
 
-fn is(fails: bool, want: u64) -> bool {
-    if fails { want == 1 } else { want == 0 }
-}
+// The rules in the order in which they are told, each with the code of its lines.
+const RULES: [(&str, u8); 21] = [
+    ("Band", 0x01),
+    ("Bor", 0x02),
+    ("Bxor", 0x03),
+    ("IaddCarry", 0x22),
+    ("Select", 0x05),
+    ("Fax", 0x07),
+    ("BxorMulti", 0x06),
+    ("IaddCinCout", 0x21),
+    ("IsubBinBout", 0x23),
+    ("Imul", 0x30),
+    ("Iadd32CinCout", 0x40),
+    ("Iadd32Cout", 0x46),
+    ("AssertEq", 0x60),
+    ("AssertEqCond", 0x61),
+    ("AssertZero", 0x62),
+    ("AssertNonZero", 0x63),
+    ("AssertFalse", 0x64),
+    ("AssertTrue", 0x65),
+    ("hint 1", 0x81),
+    ("hint 2", 0x82),
+    ("hint 3", 0x83),
+];
 
-fn both(first: u64, second: u64, line: Words) -> bool {
-    first == line.d && second == line.e
+// The words that a rule of many words reads, and the tally of each code. There are fixed many: a line that asks
+// for more does not agree, so what is told depends on it.
+#[derive(Drop)]
+struct Replayed {
+    sources: [u64; 64],
+    tallies: [Tally; 256],
 }
 
 // A rule of up to three words.
-fn agrees(line: Words) -> bool {
-    let code = line.code;
-    let a = line.a;
-    let b = line.b;
-    let c = line.c;
-    let want = line.d;
+fn agrees(line: Line<u64>) -> bool {
+    let Line {
+        code,
+        a,
+        b,
+        c,
+        d,
+        e,
+    } = line;
     match code {
-        0x01 => word::bitwise::band(a, b) == want,
-        0x02 => word::bitwise::bor(a, b) == want,
-        0x03 => word::bitwise::bxor(a, b) == want,
-        0x05 => word::bitwise::select(a, b, c) == want,
-        0x07 => word::bitwise::fax(a, b, c) == want,
-        0x21 => both(
-            word::arithmetic::sum(a, b, c),
-            word::arithmetic::carries(a, b, c),
-            line,
-        ),
-        0x22 => word::arithmetic::iadd_carry(a, b) == want,
-        0x23 => both(
-            word::arithmetic::difference(a, b, c),
-            word::arithmetic::borrows(a, b, c),
-            line,
-        ),
+        0x01 => bitwise::band(a, b) == d,
+        0x02 => bitwise::bor(a, b) == d,
+        0x03 => bitwise::bxor(a, b) == d,
+        0x05 => bitwise::select(a, b, c) == d,
+        0x07 => bitwise::fax(a, b, c) == d,
+        0x21 => arithmetic::sum(a, b, c) == d && arithmetic::carries(a, b, c) == e,
+        0x22 => arithmetic::iadd_carry(a, b) == d,
+        0x23 => arithmetic::difference(a, b, c) == d && arithmetic::borrows(a, b, c) == e,
         0x30 => {
-            let product = word::arithmetic::multiply(a, b);
-            both(product.high, product.low, line)
+            let product = arithmetic::multiply(a, b);
+            product.high == d && product.low == e
         }
-        0x40 => both(
-            word::arithmetic::sum32(a, b, c),
-            word::arithmetic::carries32(a, b, c),
-            line,
-        ),
-        0x46 => both(
-            word::arithmetic::sum32(a, b, 0),
-            word::arithmetic::carries32(a, b, 0),
-            line,
-        ),
-        0x60 => is(word::assertions::eq_fails(a, b), want),
-        0x61 => is(word::assertions::eq_cond_fails(a, b, c), want),
-        0x62 => is(word::assertions::zero_fails(a), want),
-        0x63 => is(word::assertions::non_zero_fails(a), want),
-        0x64 => is(word::assertions::false_fails(a), want),
-        0x65 => is(word::assertions::true_fails(a), want),
+        0x40 => arithmetic::sum32(a, b, c) == d && arithmetic::carries32(a, b, c) == e,
+        0x46 => arithmetic::sum32(a, b, 0) == d && arithmetic::carries32(a, b, 0) == e,
+        0x60 => u64::from(assertions::eq_fails(a, b)) == d,
+        0x61 => u64::from(assertions::eq_cond_fails(a, b, c)) == d,
+        0x62 => u64::from(assertions::zero_fails(a)) == d,
+        0x63 => u64::from(assertions::non_zero_fails(a)) == d,
+        0x64 => u64::from(assertions::false_fails(a)) == d,
+        0x65 => u64::from(assertions::true_fails(a)) == d,
         0x81 => {
-            let division = word::hints::divide(a, b);
-            both(division.quotient, division.remainder, line)
+            let division = hints::divide(a, b);
+            division.quotient == d && division.remainder == e
         }
-        0x82 => word::hints::leading_zeros(a) == want,
+        0x82 => hints::leading_zeros(a) == d,
         _ => false,
     }
 }
 
-// BxorMulti of the first n words of the list.
-fn multi_agrees(n: u64, want: u64, sources: &[u64]) -> bool {
-    let n = n as usize;
-    if sources.len() < n {
-        return false;
+impl Replayed {
+    // BxorMulti of the first a words.
+    fn multi_agrees(&self, line: Line<u64>) -> bool {
+        let n = line.a as usize;
+        n <= self.sources.len() && bitwise::bxor_multi(&self.sources[..n]) == line.d
     }
-    word::bitwise::bxor_multi(&sources[0..n]) == want
-}
 
-// Output j of hint 3 on the first k words of the list.
-fn mirror_agrees(k: u64, j: u64, want: u64, sources: &[u64]) -> bool {
-    let k = k as usize;
-    let j = j as usize;
-    if sources.len() < k {
-        return false;
-    }
-    if 8 < k {
-        return false;
-    }
-    if 8 <= j {
-        return false;
-    }
-    let mut outputs = [0u64; 8];
-    word::hints::mirror(&sources[0..k], &mut outputs[0..k]);
-    outputs[j] == want
-}
-
-// Two words into the list.
-fn put(line: Words, sources: &mut [u64]) {
-    let at = line.a as usize;
-    if at < 65536 {
-        answers::put_word(sources, at, line.b);
-        answers::put_word(sources, at + 1, line.c);
-    }
-}
-
-fn line_agrees(line: Words, sources: &[u64]) -> bool {
-    let code = line.code;
-    match code {
-        0x06 => multi_agrees(line.a, line.d, sources),
-        0x83 => mirror_agrees(line.a, line.b, line.d, sources),
-        _ => agrees(line),
-    }
-}
-
-// Where the tally has a rule.
-fn place(code: u8) -> u32 {
-    2 * (code as u32)
-}
-
-// One line; answers whether there was one.
-fn turn(input: &mut impl Read, sources: &mut [u64], tally: &mut [u64]) -> io::Result<bool> {
-    let WordsRead::Line(line) = answers::read_words(input)? else {
-        return Ok(false);
-    };
-    if line.code == 0 {
-        put(line, sources);
-        return Ok(true);
-    }
-    answers::note(tally, place(line.code), line_agrees(line, sources));
-    Ok(true)
-}
-
-// A proved loop has to end, and nothing says that the list does: so turns are counted.
-fn replay(input: &mut impl Read, sources: &mut [u64], tally: &mut [u64]) -> io::Result<()> {
-    for _ in 0..u64::MAX {
-        if !turn(input, sources, tally)? {
-            break;
+    // Output b of hint 3 on the first a words.
+    fn mirror_agrees(&self, line: Line<u64>) -> bool {
+        let k = line.a as usize;
+        let j = line.b as usize;
+        let mut outputs = [0u64; 8];
+        if k > outputs.len() || j >= outputs.len() {
+            return false;
         }
+        hints::mirror(&self.sources[..k], &mut outputs[..k]);
+        outputs[j] == line.d
     }
-    Ok(())
-}
 
-fn results(rt: &impl Print, tally: &[u64]) -> io::Result<()> {
-    answers::tell(rt, "Band", tally, place(0x01))?;
-    answers::tell(rt, "Bor", tally, place(0x02))?;
-    answers::tell(rt, "Bxor", tally, place(0x03))?;
-    answers::tell(rt, "IaddCarry", tally, place(0x22))?;
-    answers::tell(rt, "Select", tally, place(0x05))?;
-    answers::tell(rt, "Fax", tally, place(0x07))?;
-    answers::tell(rt, "BxorMulti", tally, place(0x06))?;
-    answers::tell(rt, "IaddCinCout", tally, place(0x21))?;
-    answers::tell(rt, "IsubBinBout", tally, place(0x23))?;
-    answers::tell(rt, "Imul", tally, place(0x30))?;
-    answers::tell(rt, "Iadd32CinCout", tally, place(0x40))?;
-    answers::tell(rt, "Iadd32Cout", tally, place(0x46))?;
-    answers::tell(rt, "AssertEq", tally, place(0x60))?;
-    answers::tell(rt, "AssertEqCond", tally, place(0x61))?;
-    answers::tell(rt, "AssertZero", tally, place(0x62))?;
-    answers::tell(rt, "AssertNonZero", tally, place(0x63))?;
-    answers::tell(rt, "AssertFalse", tally, place(0x64))?;
-    answers::tell(rt, "AssertTrue", tally, place(0x65))?;
-    answers::tell(rt, "hint 1", tally, place(0x81))?;
-    answers::tell(rt, "hint 2", tally, place(0x82))?;
-    answers::tell(rt, "hint 3", tally, place(0x83))
+    // Two words from a place on.
+    fn put(&mut self, line: Line<u64>) {
+        answers::put_all(&mut self.sources, line.a as usize, &[line.b, line.c]);
+    }
+
+    fn turn(&mut self, line: Line<u64>) {
+        if line.code == 0 {
+            self.put(line);
+            return;
+        }
+        let agrees = match line.code {
+            0x06 => self.multi_agrees(line),
+            0x83 => self.mirror_agrees(line),
+            _ => agrees(line),
+        };
+        self.tallies[line.code as usize].note(agrees);
+    }
 }
 
 fn main(rt: HostRuntime) -> io::Result<()> {
-    let mut sources = [0u64; 64];
-    let mut tally = [0u64; 512];
-    replay(&mut rt.reader(), &mut sources, &mut tally)?;
-    results(&rt, &tally)
+    let mut replayed = Replayed {
+        sources: [0; 64],
+        tallies: [Tally::default(); 256],
+    };
+    answers::replay(&mut rt.reader(), answers::read_words, |line| {
+        replayed.turn(line)
+    })?;
+    for (title, code) in RULES {
+        answers::tell(&rt, title, replayed.tallies[code as usize])?;
+    }
+    Ok(())
 }

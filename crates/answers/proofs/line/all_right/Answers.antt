@@ -1,13 +1,11 @@
--- `answers::line::all_right` meets its contract: what is left of the text decides. Assumes nothing.
-use Rattle.std.proofs.Common.{sym, ◌∙◌, arith}
-use Rattle.answers.proofs.Right.{wrong, right, at_end}
+-- `answers::line::all_right` meets its contract: the chain looks at each byte by its place. Assumes nothing.
+use Rattle.std.proofs.Common.{◌+◌, ◌%◌, ◌∙◌, sym, rules, tests}
+use Rattle.std.proofs.lemmas.Iterator.{YieldsList-from_slice}
+use Rattle.std.proofs.lemmas.Iterator.Consumers.{YieldsList-from_enumerate}
+use Rattle.std.proofs.lemmas.Iterator.Search.{all_from_yields_List}
+use Rattle.answers.specs.Line.{is_right}
+use Rattle.answers.proofs.Right.{all_by_place}
 use Rattle.answers.proofs.line.all_right.Goals as goal
 
-pub returns-then-not-is_right : goal.returns-then-not-is_right
-returns-then-not-is_right c = wrong c.loop-i.invariant (omega arith) (sym c.is_right.ensures ∙ c.if-not-is_right.true)
-
-pub loop-i-preserved : goal.loop-i-preserved
-loop-i-preserved c = right c.loop-i.invariant (omega arith) (sym c.is_right.ensures ∙ c.if-not-is_right.false)
-
 pub returns : goal.returns
-returns c = at_end c.loop-i.invariant c.loop-i-test.false
+returns c = all_from_yields_List (λ p. is_right (p.0 % (c.args.digits + 1)) p.1) _ _ _ c.all.ensures.ran (YieldsList-from_enumerate (YieldsList-from_slice c.args.text.now cc) cc) (λ x b q k. search (rules, tests)) ∙ sym (all_by_place (c.args.digits + 1) 0 c.args.text.now)
