@@ -40,6 +40,9 @@ enum Fault {
     RefusalTouchesTheValues,
     /// Of one of the two instructions that add halves.
     Halves(Opcode, Mistake),
+    // of hint 1
+    QuotientByZeroIsZero,
+    RemainderByZeroIsZero,
     // of raising and joining
     SumWraps,
     SideKept,
@@ -151,11 +154,11 @@ impl Subject for Planted {
                 word = 0;
                 report.copy_from_slice(&report_before);
             }
-            Fault::Halves(opcode, mistake) => {
+            Fault::Halves(..) | Fault::QuotientByZeroIsZero | Fault::RemainderByZeroIsZero => {
                 let program = check::check(&code, rows).expect("accepted above");
                 for column in first..first + count {
                     let mut words = batch::column_of(&before, told, column);
-                    run_mistaken(&program, opcode, mistake, &mut words);
+                    run_mistaken(&program, self.0, &mut words);
                     for (row, word) in words.into_iter().enumerate() {
                         values[row * width + column] = word;
                     }
@@ -300,18 +303,28 @@ fn make_sar_logical(code: &mut [u8]) {
     }
 }
 
-/// Runs a column with the mistake in every instruction of that opcode.
-fn run_mistaken(program: &[Instruction], opcode: Opcode, mistake: Mistake, column: &mut [u64]) {
+/// Runs a column with the fault in every instruction that it is of.
+fn run_mistaken(program: &[Instruction], fault: Fault, column: &mut [u64]) {
     for instruction in program {
         run_column(std::slice::from_ref(instruction), column);
-        if instruction.opcode == opcode {
-            // No destination is a source, so what was read still stands there.
-            let read: Vec<u64> = instruction.sources.iter().map(|&register| column[register as usize]).collect();
-            let (sums, carries) = mistaken_halves(mistake, &read);
-            for (&register, word) in instruction.destinations.iter().zip([sums, carries]) {
+        // No destination is a source, so what was read still stands there.
+        let read: Vec<u64> = instruction.sources.iter().map(|&register| column[register as usize]).collect();
+        if let Some(words) = mistaken(fault, instruction, &read) {
+            for (&register, word) in instruction.destinations.iter().zip(words) {
                 column[register as usize] = word;
             }
         }
+    }
+}
+
+/// The two words that an instruction with the fault stores, where it is one.
+fn mistaken(fault: Fault, instruction: &Instruction, read: &[u64]) -> Option<[u64; 2]> {
+    let by_zero = matches!(instruction.numbers, layout::Numbers::Hint { id: 1, .. }) && read[1] == 0;
+    match fault {
+        Fault::Halves(opcode, mistake) if instruction.opcode == opcode => Some(mistaken_halves(mistake, read).into()),
+        Fault::QuotientByZeroIsZero if by_zero => Some([0, read[0]]),
+        Fault::RemainderByZeroIsZero if by_zero => Some([u64::MAX, 0]),
+        _ => None,
     }
 }
 
@@ -372,6 +385,8 @@ fn every_planted_fault_is_found() {
         (Fault::Halves(Opcode::Iadd32Cout, Mistake::CarryGoesOnIntoTheHighHalf), Kind::Filled),
         (Fault::Halves(Opcode::Iadd32Cout, Mistake::CarriesOfTheWholeWord), Kind::Filled),
         (Fault::Halves(Opcode::Iadd32Cout, Mistake::CarriesInFromTheSecondOperand), Kind::Filled),
+        (Fault::QuotientByZeroIsZero, Kind::Filled),
+        (Fault::RemainderByZeroIsZero, Kind::Filled),
         (Fault::SumWraps, Kind::Joined),
         (Fault::SideKept, Kind::Joined),
         (Fault::CleanRaised, Kind::Joined),

@@ -1,4 +1,4 @@
-//! Document 01, read a second time, with what document 02 has changed in it: E1.
+//! Document 01, read a second time, with what document 02 has changed in it: E1 and E2.
 //!
 //! This package was written from the text of the two alone; from the Rust that the text points to it takes three
 //! things, which the text leaves there: the opcode values, the order of an instruction's fields and the use of its
@@ -12,7 +12,7 @@
 //! | [`refusals`] | Numbered refusals |
 //! | [`layout`] | Instruction layout |
 //! | [`check`] | Numbered refusals, 1 and 3 to 10 |
-//! | [`words`] | Word rules; document 02, E1 |
+//! | [`words`] | Word rules; document 02, E1 and E2 |
 //! | [`column`] | Word rules; Assertions |
 //! | [`batch`] | Assertions and reports; a run over a stripe |
 //! | [`reports`] | Assertions and reports; raising and joining |

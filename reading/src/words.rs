@@ -1,4 +1,5 @@
-//! "Word rules": 64-bit words, ordinary binary arithmetic; and the sums of halves that document 02 adds (E1).
+//! "Word rules": 64-bit words, ordinary binary arithmetic; and of document 02 the sums of halves (E1) and what a division
+//! by zero gives (E2).
 
 /// "Select takes t exactly when bit 63 of the condition is 1", and the carry-in is bit 63 of its word.
 pub fn top_bit(word: u64) -> bool {
@@ -94,10 +95,10 @@ pub fn shift(variant: u8, word: u64, amount: u8) -> u64 {
     of_half(word / half) * half + of_half(word % half)
 }
 
-/// Hint 1: "quotient and remainder of a by b; if b is 0, quotient 0 and remainder a".
+/// Hint 1: "quotient and remainder of a by b", and "a zero divisor gives quotient all ones and remainder a".
 pub fn divide(a: u64, b: u64) -> (u64, u64) {
     match b {
-        0 => (0, a),
+        0 => (u64::MAX, a),
         _ => (a / b, a % b),
     }
 }
@@ -189,7 +190,9 @@ mod tests {
     #[test]
     fn the_hints_words() {
         assert_eq!(divide(17, 5), (3, 2));
-        assert_eq!(divide(17, 0), (0, 17));
+        for a in [0, 1, 17, ONES] {
+            assert_eq!(divide(a, 0), (ONES, a));
+        }
         for word in [0, 1, 2, 3, 1 << 62, 1 << 63, ONES] {
             assert_eq!(leading_zeros(word), u64::from(word.leading_zeros()));
         }

@@ -139,8 +139,8 @@ unfolding quotient_of remainder_of
 division_only a zero q r e h = absurd (omega arith)
 division_only a (suc b) q r e h = (sym (digits_div q h) ∙ ap (λ (n : ℕ). n / suc b) e, sym (digits_mod q h) ∙ ap (λ (n : ℕ). n % suc b) e)
 
--- by zero: quotient 0 and remainder a
-pub division_by_zero : (a : ℕ) → (quotient_of a 0 ≡ 0) × (remainder_of a 0 ≡ a)
+-- by zero: quotient all ones and remainder a
+pub division_by_zero : (a : ℕ) → (quotient_of a 0 ≡ 2 ^ 64 - 1) × (remainder_of a 0 ≡ a)
 unfolding quotient_of remainder_of
 division_by_zero a = (refl, refl)
 

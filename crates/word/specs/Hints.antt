@@ -1,10 +1,10 @@
--- Document 01, "Word rules": the hints. Assumes nothing.
-use Rattle.std.specs.Prelude.{ℕ, zero, suc, ◌/◌, ◌%◌, cond, List, reverse, length, ◌==◌}
+-- Document 01, "Word rules": the hints, with what document 02 (E2) has hint 1 answer by zero. Assumes nothing.
+use Rattle.std.specs.Prelude.{ℕ, zero, suc, ◌-◌, ◌/◌, ◌%◌, ◌^◌, cond, List, reverse, length, ◌==◌}
 use Rattle.common.specs.Bits.{bit_at}
 
--- hint 1: the quotient and the remainder of a by b; by zero the quotient is 0 and the remainder a
+-- hint 1: the quotient and the remainder of a by b; by zero the quotient is all ones and the remainder a
 unfoldable pub quotient_of : (a b : ℕ) → ℕ
-quotient_of a zero = 0
+quotient_of a zero = 2 ^ 64 - 1
 quotient_of a (suc b) = a / suc b
 
 unfoldable pub remainder_of : (a b : ℕ) → ℕ

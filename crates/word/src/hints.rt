@@ -9,13 +9,13 @@ pub struct Division {
     pub remainder: u64,
 }
 
-// Hint 1: a divided by b. By zero the quotient is 0 and the remainder a.
+// Hint 1: a divided by b. By zero the quotient is all ones and the remainder a.
 pub fn divide(a: u64, b: u64) -> Division
     ensures { (result.quotient ≡ quotient_of a b) × (result.remainder ≡ remainder_of a b) }
 {
     if b == 0 {
         Division {
-            quotient: 0,
+            quotient: u64::MAX,
             remainder: a,
         }
     } else {

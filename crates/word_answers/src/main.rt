@@ -33,8 +33,8 @@ const RULES: [(&str, u8); 21] = [
     ("hint 3", 0x83),
 ];
 
-// The words that a rule of many words reads, and the tally of each code. There are fixed many: a line that asks
-// for more does not agree, so what is told depends on it.
+// The words that a rule of many words reads, and the tally of each code. The words are so
+// many and no more: a line that asks for more of them does not agree, and what is told depends on that.
 #[derive(Drop)]
 struct Replayed {
     sources: [u64; 64],

@@ -63,6 +63,7 @@ pub fn list(rust: &dyn Rust, seed: u64) -> List {
     );
 
     put_halves(&mut lines, rust);
+    put_averages(&mut lines, rust);
 
     // Nothing to run: no instructions, no rows, no columns, none of the columns.
     for (rows, width, first, count) in [(0, 0, 0, 0), (0, 3, 1, 2), (2, 0, 0, 0), (2, 3, 3, 0)] {
@@ -291,6 +292,54 @@ fn put_halves(lines: &mut Lines, rust: &dyn Rust) {
         first,
         count,
         cap: 3,
+    });
+    put(lines, rust, &batch, &stripes);
+}
+
+/// An average behind hint 1 and its upper limit, in a batch where single columns have no readings, with
+/// sums of 0, 1 and all ones.
+fn put_averages(lines: &mut Lines, rust: &dyn Rust) {
+    // Sum and count, column by column; then the limit, and a borrow in of 0. What is written holds 7
+    // before.
+    let columns = [
+        [1803, 4],
+        [0, 5],
+        [0, 0],
+        [2400, 3],
+        [1, 0],
+        [2403, 3],
+        [u64::MAX, 0],
+        [u64::MAX, 1],
+    ];
+    let width = columns.len();
+    let mut values = vec![7; 8 * width];
+    for (column, &[sum, count]) in columns.iter().enumerate() {
+        for (row, word) in [sum, count, 800, 0].into_iter().enumerate() {
+            values[row * width + column] = word;
+        }
+    }
+    let average = Call::Hint {
+        id: 1,
+        dimensions: Vec::new(),
+        inputs: vec![0, 1],
+        outputs: vec![4, 5],
+    };
+    let batch = Batch {
+        calls: vec![
+            average,
+            // Where the limit less the average borrows, the two are told.
+            Call::IsubBinBout([6, 7, 2, 4, 3]),
+            Call::AssertEqCond([7, 4, 2, 31]),
+            Call::AssertZero([5, 32]),
+        ],
+        rows: 8,
+        width,
+        values,
+    };
+    let stripes = [(0, width), (1, 2), (2, 1), (3, 2), (6, 1)].map(|(first, count)| Stripe {
+        first,
+        count,
+        cap: 2,
     });
     put(lines, rust, &batch, &stripes);
 }

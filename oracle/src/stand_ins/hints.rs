@@ -1,6 +1,6 @@
-//! The hints of document 01. The Rust's own handlers are not given: these are the harness's, and an
-//! answer of theirs shows how the executor feeds a handler and stores what it gives, not a rule of
-//! the Rust's.
+//! The hints of document 01, and of document 02 (E2) what hint 1 answers by zero. The Rust's own
+//! handlers are not given: these are the harness's, and an answer of theirs shows how the executor
+//! feeds a handler and stores what it gives, not a rule of the Rust's.
 
 use crate::word::Word;
 
@@ -31,7 +31,7 @@ impl Handler {
                     panic!("hint 1 takes no dimensions, 2 in, 2 out");
                 };
                 let (a, b) = (a.as_u64(), b.as_u64());
-                *quotient = Word(a.checked_div(b).unwrap_or(0));
+                *quotient = Word(a.checked_div(b).unwrap_or(u64::MAX));
                 *remainder = Word(a.checked_rem(b).unwrap_or(a));
             }
             Handler::LeadingZeros => {
