@@ -17,6 +17,11 @@ impl Assembler {
         self.instruction(0x03, &[to, a, b], None);
     }
 
+    /// `sum` = `a` + `b` + the carry, which is bit 63 of `carry_in`; `carries` gets the carry out of every bit
+    pub fn iadd_cin_cout(&mut self, sum: Register, carries: Register, a: Register, b: Register, carry_in: Register) {
+        self.instruction(0x21, &[sum, carries, a, b, carry_in], None);
+    }
+
     /// `difference` = `a` - `b` - the borrow, which is bit 63 of `borrow_in`; `borrows` gets the borrow out of every bit
     pub fn isub_bin_bout(
         &mut self,
@@ -27,6 +32,13 @@ impl Assembler {
         borrow_in: Register,
     ) {
         self.instruction(0x23, &[difference, borrows, a, b, borrow_in], None);
+    }
+
+    /// Hint 1, of no dimensions, 2 inputs and 2 outputs: `a` by `b`; by zero all ones, and `a` is left over
+    pub fn divide(&mut self, quotient: Register, left_over: Register, a: Register, b: Register) {
+        self.code.push(0x80);
+        let fields = [1, 0, 2, 2].into_iter().chain([a, b, quotient, left_over].map(|register| register.get()));
+        self.code.extend(fields.flat_map(u32::to_le_bytes));
     }
 
     /// `a` = `b` wherever bit 63 of `condition` is 1

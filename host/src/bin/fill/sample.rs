@@ -22,13 +22,22 @@ const ORDERED_READING: Register = Register::new(READINGS + 7);
 const DIFFERENCE: Register = Register::new(READINGS + 8);
 /// Bit 63 is 1 exactly where the subtraction borrowed: where the first was less than the second.
 const BORROWS: Register = Register::new(READINGS + 9);
-const ROWS: Rows = Rows::new(READINGS as usize + 10);
+/// How far the readings so far are above the lower limit in all: each total is written beside the one before it.
+const TOTALS: [Register; 2] = [Register::new(READINGS + 10), Register::new(READINGS + 11)];
+const CARRIES: Register = Register::new(READINGS + 12);
+/// How far the readings are above the lower limit on average; all ones where the logger took none.
+const AVERAGE: Register = Register::new(READINGS + 13);
+const LEFT_OVER: Register = Register::new(READINGS + 14);
+/// How far the upper limit is above the lower.
+const SPAN: Register = Register::new(READINGS + 15);
+const ROWS: Rows = Rows::new(READINGS as usize + 16);
 
 /// Path specs 0, 2, 4, .. are the readings against the lower limit; 1, 3, 5, .. against the upper.
 const NO_READINGS: PathSpec = PathSpec::new(2 * READINGS);
+const WARM_AVERAGE: PathSpec = PathSpec::new(2 * READINGS + 1);
 
 const CAP: usize = 2;
-const CUTS: [BatchPosition; 2] = [BatchPosition::new(4), BatchPosition::new(8)];
+const CUTS: [BatchPosition; 3] = [BatchPosition::new(4), BatchPosition::new(8), BatchPosition::new(10)];
 
 /// A parcel: its limits, and what its logger wrote; all temperatures in hundredths of a degree.
 struct Parcel {
@@ -39,6 +48,7 @@ struct Parcel {
 
 const CHILLED: (i64, i64) = (200, 800);
 const FROZEN: (i64, i64) = (-2_500, -1_800);
+const COOL: (i64, i64) = (0, 1_500);
 
 const fn parcel(limits: (i64, i64), readings: [i64; READINGS as usize]) -> Parcel {
     Parcel { limits, readings, taken: READINGS as u64 }
@@ -57,8 +67,8 @@ const PARCELS: [Parcel; 12] = [
     parcel(CHILLED, [299, 305, 310, 300]),
     // too warm once
     parcel(FROZEN, [-2_050, -1_950, -1_750, -1_900]),
-    // a logger that never woke
-    Parcel { limits: CHILLED, readings: [0; READINGS as usize], taken: 0 },
+    // a logger that never woke: each reading of 0 is within the limits, and the average is none
+    Parcel { limits: COOL, readings: [0; READINGS as usize], taken: 0 },
     parcel(CHILLED, [444, 440, 452, 447]),
 ];
 
@@ -67,15 +77,23 @@ fn program() -> Vec<u8> {
     assembler.assert_non_zero(TAKEN, NO_READINGS);
     assembler.bxor(ORDERED_LOWER, LOWER, SIGN);
     assembler.bxor(ORDERED_UPPER, UPPER, SIGN);
+    let mut total = ZERO;
     for number in 0..READINGS {
         let reading = Register::new(number);
         assembler.bxor(ORDERED_READING, reading, SIGN);
         // Where the subtraction borrows, the reading is outside its limit, and "equal to it" fails with both in the record.
         assembler.isub_bin_bout(DIFFERENCE, BORROWS, ORDERED_READING, ORDERED_LOWER, ZERO);
         assembler.assert_eq_cond(BORROWS, reading, LOWER, PathSpec::new(2 * number));
+        let before = total;
+        total = TOTALS[number as usize % TOTALS.len()];
+        assembler.iadd_cin_cout(total, CARRIES, before, DIFFERENCE, ZERO);
         assembler.isub_bin_bout(DIFFERENCE, BORROWS, ORDERED_UPPER, ORDERED_READING, ZERO);
         assembler.assert_eq_cond(BORROWS, reading, UPPER, PathSpec::new(2 * number + 1));
     }
+    assembler.divide(AVERAGE, LEFT_OVER, total, TAKEN);
+    assembler.isub_bin_bout(SPAN, BORROWS, UPPER, LOWER, ZERO);
+    assembler.isub_bin_bout(DIFFERENCE, BORROWS, SPAN, AVERAGE, ZERO);
+    assembler.assert_eq_cond(BORROWS, AVERAGE, SPAN, WARM_AVERAGE);
     assembler.into_code()
 }
 
@@ -114,6 +132,10 @@ pub fn fill(told: &mut String) -> Result<(), Trouble> {
         let [reading, limit] = failure.words.map(|word| degrees(word as i64));
         let _ = match failure.path_spec {
             NO_READINGS => writeln!(told, "in degrees: {NO_READINGS} is a parcel whose logger took no reading"),
+            WARM_AVERAGE => writeln!(
+                told,
+                "in degrees: {WARM_AVERAGE} is the average against the upper limit, which is {limit} above the lower",
+            ),
             path_spec => writeln!(
                 told,
                 "in degrees: {path_spec} is reading {} against the {} limit, {reading} against {limit}",

@@ -81,15 +81,16 @@ fn words(arguments: &[&str]) -> Answer {
 fn with_no_arguments_the_sample_is_filled() {
     let expected = "\
 sample: 12 parcels with 4 readings each, in hundredths of a degree, against a lower and an upper limit; at most 2 kept failures
-filled: 12 parcels, 14 rows, in 3 stripes; positions are counted from 0
+filled: 12 parcels, 20 rows, in 4 stripes; positions are counted from 0
 stripe from batch position 0, 4 parcels: no parcel fails
 stripe from batch position 4, 4 parcels: its lowest failing parcel is stripe position 2, 3 violations
-stripe from batch position 8, 4 parcels: its lowest failing parcel is stripe position 1, 1 violation
+stripe from batch position 8, 2 parcels: its lowest failing parcel is stripe position 1, 1 violation
+stripe from batch position 10, 2 parcels: its lowest failing parcel is stripe position 0, 2 violations
 lowest failing parcel: batch position 6, counted from the batch's start
   that is stripe position 2, counted from its stripe's start, which is batch position 4
   3 violations in all, 2 failures kept
-  instruction 12, AssertEqCond, path spec 3: words 0x0000000000000343 and 0x0000000000000320
-  instruction 17, AssertEqCond, path spec 5: words 0x000000000000038e and 0x0000000000000320
+  instruction 14, AssertEqCond, path spec 3: words 0x0000000000000343 and 0x0000000000000320
+  instruction 20, AssertEqCond, path spec 5: words 0x000000000000038e and 0x0000000000000320
 in degrees: path spec 3 is reading 1 against the upper limit, 8.35 against 8.00
 in degrees: path spec 5 is reading 2 against the upper limit, 9.10 against 8.00
 ";
@@ -112,11 +113,15 @@ fn the_samples_files_are_filled_by_the_command_that_is_told() {
     }
     // parcel 6, reading 1, ordered: 835 above 2^63; its borrow against the upper limit is in the last rows' words
     let filled = fs::read(desk.path("filled.words")).expect("written");
-    assert_eq!(filled.len(), 14 * 12 * 8);
+    assert_eq!(filled.len(), 20 * 12 * 8);
     let before = fs::read(desk.path("values.words")).expect("written");
     let untouched_rows = 9 * 12 * 8;
     assert_eq!(filled[..untouched_rows], before[..untouched_rows]);
     assert_ne!(filled[untouched_rows..], before[untouched_rows..]);
+    // the averages above the lower limit: parcel 0's, and none of parcel 10, whose logger never woke
+    let average = |parcel: usize| filled[8 * (17 * 12 + parcel)..][..8].to_vec();
+    assert_eq!(average(0), 249u64.to_le_bytes());
+    assert_eq!(average(10), u64::MAX.to_le_bytes());
 }
 
 #[test]
