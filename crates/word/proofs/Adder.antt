@@ -1,12 +1,12 @@
--- Carries: the masked formula and the bit-by-bit step are the carry word, at every width. Assumes nothing.
-use Rattle.std.proofs.Common.{◌≡◌, ℕ, zero, suc, ◌+◌, ◌-◌, ◌*◌, ◌/◌, ◌%◌, ◌^◌, ◌<◌, Bool, true, false, leb, sym, refl, ap, ◌∙◌, ap₂, mod-lt, add-mul, add_comm, pow-suc, add-one, arith, lit<, pow_pos, leb-false, leb-true}
+-- Carries: the bit-by-bit step and the masked formula are the carry word, at every width. Assumes nothing.
+use Rattle.std.proofs.Common.{◌≡◌, ℕ, zero, suc, ◌+◌, ◌-◌, ◌*◌, ◌/◌, ◌%◌, ◌^◌, ◌<◌, Bool, true, false, leb, sym, refl, ap, ◌∙◌, ap₂, mod-lt, mul_assoc, add-mul, add_comm, one-mul, pow-suc, zero-mul, add-one, arith, lit<, pow_pos, pow-add, shl_exact, leb-false, leb-true}
 use native.Mathlib.Nat.{mod-add-mod, div-eq_of_lt, div-eq_of_lt-le, add-mul-div_right, div-div-eq-div-mul}
-use lib.Bits.{bit_and, bit_or, bit_xor, and_lt, or_lt, xor_lt, and_block, or_block, xor_block}
+use lib.Bits.{bit_and, bit_or, bit_xor, and_lt, or_lt, xor_lt, and_self, or_self, and_zero_l, and_zero_r, or_zero_l, or_zero_r, and_high, or_shifted_r, and_block, or_block, xor_block}
 use lib.Pow.{ones_sub-lt, split, shr_lt}
 use Rattle.common.specs.Halves.{halves}
-use Rattle.common.specs.Bits.{bit, bit_at}
+use Rattle.common.specs.Bits.{bit, bit_at, word}
 use Rattle.word.specs.Arithmetic.{sum_word, carry_into, carry_word, sum_halves, carry_halves}
-use Rattle.common.proofs.Digits.{mod-suc-pow, bit_at_lt, top_bit, is_word, bit-and, bit-or, bit-xor, bit_not, not-halves, bit-mod, three}
+use Rattle.common.proofs.Digits.{mod-suc-pow, bit_at_lt, top_bit, is_word, word_lt, bit-and, bit-or, bit-xor, bit_not, not-halves, bit-mod, three}
 
 -- by what a test says
 pub by_test : (t : Bool) (Q : ℕ → Type 0) → (t ≡ true → Q 1) → (t ≡ false → Q 0) → Q (bit t)
@@ -52,6 +52,62 @@ sum-bit a b c i l =
 pub carry_lt : (a b c i : ℕ) → carry_into a b c i < 2
 unfolding carry_into
 carry_lt a b c i = by_test (leb (2 ^ i) (a % 2 ^ i + b % 2 ^ i + c)) (λ n. n < 2) (λ e. lit< tt) (λ e. lit< tt)
+
+-- ---- bit by bit, lowest first, each bit at its place
+
+-- into bit 0 goes c alone
+pub carry_first : (a b c : ℕ) → c < 2 → carry_into a b c 0 ≡ c
+carry_first a b c l = carry_div a b c 0 l ∙ omega arith
+
+-- bit i of x, at its place
+bit_there : (x i : ℕ) → bit_and x (2 ^ i) ≡ bit_at x i * 2 ^ i
+unfolding bit_at
+bit_there x i =
+    let one : 2 ^ i ≡ 2 ^ (1 + i) - 2 ^ i = omega (arith, pow-add 2 1 i) in
+    ap (bit_and x) one ∙ and_high x 1 i
+
+-- where at least two of three bits are 1
+abbrev pub two_of_three : (x y k : ℕ) → ℕ
+two_of_three x y k = bit_or (bit_or (bit_and x y) (bit_and x k)) (bit_and y k)
+
+ruleset at_place = (zero-mul, one-mul, and_self, or_self, and_zero_l, and_zero_r, or_zero_l, or_zero_r)
+
+-- at the place p it is half of the three digits' sum
+two_of_three_lem : (p x y k : ℕ) → x < 2 → y < 2 → k < 2 → two_of_three (x * p) (y * p) (k * p) ≡ (x + y + k) / 2 * p
+two_of_three_lem p =
+    three (λ x y k. two_of_three (x * p) (y * p) (k * p) ≡ (x + y + k) / 2 * p)
+    (simp at_place) (simp at_place) (simp at_place) (simp at_place) (simp at_place) (simp at_place) (simp at_place) (simp at_place)
+
+-- the place of a bit, moved up to the next
+pub place_up : (i : ℕ) → 2 ^ i * 2 ≡ 2 ^ (i + 1)
+place_up i = sym (pow-add 2 i 1)
+
+pub carry_up : (k i : ℕ) → k * 2 ^ i * 2 ≡ k * 2 ^ (i + 1)
+carry_up k i = mul_assoc k (2 ^ i) 2 ∙ ap (λ (n : ℕ). k * n) (place_up i)
+
+-- below w it is not lost
+pub place_fits : (w i : ℕ) → i < w → 2 ^ i % 2 ^ w ≡ 2 ^ i
+place_fits w i h = ap (λ (n : ℕ). n % 2 ^ w) (sym (one-mul (2 ^ i))) ∙ shl_exact 1 i w (lit< tt) (omega arith) ∙ one-mul (2 ^ i)
+
+-- the carry out of bit i, from the carry below it
+pub carry_next : (w a b c i place below : ℕ) → c < 2 → i < w → place ≡ 2 ^ i % 2 ^ w → below ≡ carry_into a b c i * 2 ^ i % 2 ^ w
+    → two_of_three (bit_and a place) (bit_and b place) below ≡ carry_into a b c (i + 1) * 2 ^ i
+carry_next w a b c i place below l h e f =
+    let there : place ≡ 2 ^ i = e ∙ place_fits w i h in
+    let fits : below ≡ carry_into a b c i * 2 ^ i = f ∙ shl_exact 1 i w (carry_lt a b c i) (omega arith) in
+    (λ j. two_of_three (bit_and a (there j)) (bit_and b (there j)) (fits j))
+    ∙ (λ j. two_of_three (bit_there a i j) (bit_there b i j) (carry_into a b c i * 2 ^ i))
+    ∙ two_of_three_lem (2 ^ i) (bit_at a i) (bit_at b i) (carry_into a b c i) (bit_at_lt a i) (bit_at_lt b i) (carry_lt a b c i)
+    ∙ ap (λ (n : ℕ). n * 2 ^ i) (sym (carry_step a b c i l) ∙ ap (carry_into a b c) (sym (add-one i)))
+
+-- the carry word of one bit more
+pub word_next : (a b c i : ℕ) → bit_or (carry_word i a b c) (carry_into a b c (i + 1) * 2 ^ i) ≡ carry_word (i + 1) a b c
+unfolding carry_word word
+word_next a b c i =
+    or_shifted_r (carry_into a b c (i + 1)) i (carry_word i a b c) (word_lt i (λ j. carry_lt a b c (j + 1)))
+    ∙ add_comm _ _ ∙ ap (λ (n : ℕ). carry_word n a b c) (sym (add-one i))
+
+-- ---- the masked formula
 
 -- one bit of the masked formula: of three digits x, y and k, their majority
 abbrev Masked : ℕ → ℕ → ℕ → Type 0

@@ -13,20 +13,24 @@ pub fn sum(a: u64, b: u64, cin: u64) -> u64
     a.wrapping_add(b).wrapping_add(cin >> 63)
 }
 
-// The carry out of each bit of a sum of a and b: a bit carries where both its digits are 1, or
-// where one is and the sum's bit came out 0.
-fn carries_of(a: u64, b: u64, sum: u64) -> u64
-    ensures { result ≡ bit_or (bit_and a b) (bit_and (bit_xor a b) (2 ^ 64 - 1 - sum)) }
-{
-    (a & b) | ((a ^ b) & !sum)
-}
-
-// The carry out of each bit of a + b + c, where c is bit 63 of cin.
-#[tactic(auto, using(common::proofs::Digits::bit_at_lt, crate::proofs::Adder::masked_carries))]
+// The carry out of each bit of a + b + c, where c is bit 63 of cin: bit by bit, lowest first. Each
+// bit stays at its place, and what it carries is moved up to the next.
 pub fn carries(a: u64, b: u64, cin: u64) -> u64
     ensures { result ≡ carry_word 64 a b (bit_at cin 63) }
 {
-    carries_of(a, b, sum(a, b, cin))
+    let mut place = 1;
+    let mut below = cin >> 63;
+    let mut word = 0;
+    for _ in 0..u64::BITS {
+        let bit_of_a = a & place;
+        let bit_of_b = b & place;
+        // A bit carries where at least two of the three are 1.
+        let carry = (bit_of_a & bit_of_b) | (bit_of_a & below) | (bit_of_b & below);
+        word |= carry;
+        below = carry << 1;
+        place <<= 1;
+    }
+    word
 }
 
 // IaddCarry: the carries alone, with no carry-in.
@@ -55,6 +59,14 @@ pub fn sum32(a: u64, b: u64, cin: u64) -> u64
         half_sum(high(a), high(b), high(cin)),
         half_sum(low(a), low(b), low(cin)),
     )
+}
+
+// The carry out of each bit of a sum of a and b: a bit carries where both its digits are 1, or
+// where one is and the sum's bit came out 0.
+fn carries_of(a: u64, b: u64, sum: u64) -> u64
+    ensures { result ≡ bit_or (bit_and a b) (bit_and (bit_xor a b) (2 ^ 64 - 1 - sum)) }
+{
+    (a & b) | ((a ^ b) & !sum)
 }
 
 // The carry out of each bit of each half: what `carries_of` says of a bit holds of a bit of a half.
