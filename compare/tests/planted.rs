@@ -9,7 +9,7 @@ use reading::layout::{Instruction, Opcode};
 use reading::refusals::{Name, Refused};
 use reading::reports::Local;
 use reading::slots::{Policy, UNSLOTTED};
-use reading::words::{add, add_halves, top_bits};
+use reading::words::{add, add_halves, top_bit, top_bits};
 use reading::{batch, check, layout, packing, slots};
 
 const SEED: u64 = 19_860_126;
@@ -40,6 +40,8 @@ enum Fault {
     RefusalTouchesTheValues,
     /// Of one of the two instructions that add halves.
     Halves(Opcode, Mistake),
+    /// Of one of the two instructions that have the carries of the whole word.
+    Carries(Opcode, Slip),
     // of hint 1
     QuotientByZeroIsZero,
     RemainderByZeroIsZero,
@@ -66,6 +68,13 @@ enum Mistake {
     LowCarryInFromBit63,
     HighCarryInFromBit31,
     CarriesInFromTheSecondOperand,
+}
+
+/// In the bit-by-bit carry.
+#[derive(Clone, Copy, Debug, PartialEq, Eq)]
+enum Slip {
+    CarryBelowForgotten,
+    BitZeroPassedOver,
 }
 
 struct Planted(Fault);
@@ -154,7 +163,7 @@ impl Subject for Planted {
                 word = 0;
                 report.copy_from_slice(&report_before);
             }
-            Fault::Halves(..) | Fault::QuotientByZeroIsZero | Fault::RemainderByZeroIsZero => {
+            Fault::Halves(..) | Fault::Carries(..) | Fault::QuotientByZeroIsZero | Fault::RemainderByZeroIsZero => {
                 let program = check::check(&code, rows).expect("accepted above");
                 for column in first..first + count {
                     let mut words = batch::column_of(&before, told, column);
@@ -317,14 +326,35 @@ fn run_mistaken(program: &[Instruction], fault: Fault, column: &mut [u64]) {
     }
 }
 
-/// The two words that an instruction with the fault stores, where it is one.
-fn mistaken(fault: Fault, instruction: &Instruction, read: &[u64]) -> Option<[u64; 2]> {
+/// The words that an instruction with the fault stores, where it is one, in the order of its destinations.
+fn mistaken(fault: Fault, instruction: &Instruction, read: &[u64]) -> Option<Vec<u64>> {
     let by_zero = matches!(instruction.numbers, layout::Numbers::Hint { id: 1, .. }) && read[1] == 0;
     match fault {
-        Fault::Halves(opcode, mistake) if instruction.opcode == opcode => Some(mistaken_halves(mistake, read).into()),
-        Fault::QuotientByZeroIsZero if by_zero => Some([0, read[0]]),
-        Fault::RemainderByZeroIsZero if by_zero => Some([u64::MAX, 0]),
+        Fault::Halves(opcode, mistake) if instruction.opcode == opcode => {
+            let (sums, carries) = mistaken_halves(mistake, read);
+            Some(vec![sums, carries])
+        }
+        Fault::Carries(opcode, slip) if instruction.opcode == opcode => {
+            let carries = mistaken_carries(slip, read);
+            Some(match read.get(2) {
+                Some(&carry_in) => vec![add(read[0], read[1], top_bit(carry_in)).0, carries],
+                None => vec![carries],
+            })
+        }
+        Fault::QuotientByZeroIsZero if by_zero => Some(vec![0, read[0]]),
+        Fault::RemainderByZeroIsZero if by_zero => Some(vec![u64::MAX, 0]),
         _ => None,
+    }
+}
+
+/// The carries of two operands and, where there is one, of the word of the carry in.
+fn mistaken_carries(slip: Slip, read: &[u64]) -> u64 {
+    let (a, b) = (read[0], read[1]);
+    let carry_in = read.get(2).is_some_and(|&word| top_bit(word));
+    match slip {
+        Slip::CarryBelowForgotten => a & b,
+        // The carry in goes into bit 1.
+        Slip::BitZeroPassedOver => add(a >> 1, b >> 1, carry_in).1 << 1,
     }
 }
 
@@ -385,6 +415,10 @@ fn every_planted_fault_is_found() {
         (Fault::Halves(Opcode::Iadd32Cout, Mistake::CarryGoesOnIntoTheHighHalf), Kind::Filled),
         (Fault::Halves(Opcode::Iadd32Cout, Mistake::CarriesOfTheWholeWord), Kind::Filled),
         (Fault::Halves(Opcode::Iadd32Cout, Mistake::CarriesInFromTheSecondOperand), Kind::Filled),
+        (Fault::Carries(Opcode::IaddCinCout, Slip::CarryBelowForgotten), Kind::Filled),
+        (Fault::Carries(Opcode::IaddCinCout, Slip::BitZeroPassedOver), Kind::Filled),
+        (Fault::Carries(Opcode::IaddCarry, Slip::CarryBelowForgotten), Kind::Filled),
+        (Fault::Carries(Opcode::IaddCarry, Slip::BitZeroPassedOver), Kind::Filled),
         (Fault::QuotientByZeroIsZero, Kind::Filled),
         (Fault::RemainderByZeroIsZero, Kind::Filled),
         (Fault::SumWraps, Kind::Joined),
