@@ -70,6 +70,7 @@ bit_there x i =
 abbrev pub two_of_three : (x y k : ℕ) → ℕ
 two_of_three x y k = bit_or (bit_or (bit_and x y) (bit_and x k)) (bit_and y k)
 
+-- what and and or make of a digit at a place, 0 or 1 times it
 ruleset at_place = (zero-mul, one-mul, and_self, or_self, and_zero_l, and_zero_r, or_zero_l, or_zero_r)
 
 -- at the place p it is half of the three digits' sum

@@ -1,5 +1,5 @@
 -- Document 01's "Word rules" and its assertions, sentence by sentence, as theorems about the definitions. Assumes nothing.
-use Rattle.std.proofs.Common.{◌≡◌, ℕ, zero, suc, ◌+◌, ◌-◌, ◌*◌, ◌/◌, ◌%◌, ◌^◌, ◌<◌, ◌≤◌, Bool, true, false, cond, not, eqb, ltb, ◌↔◌, List, [], ◌∷◌, ◌++◌, reverse, length, get_or, sym, refl, ap, ◌∙◌, ⊎_elim, lt_of_le_of_lt, le_of_lt, mod-lt, mod-eq_of_lt, eq-or-lt_of_le, mul-le-mul_left, mul-lt-mul_of_pos_right, div-add-mod', arith, lit<, pow_pos, pow-add, shr_lt, ltb-true, lt-ltb, eq-eqb, ne_eqb, eqb-true, le-leb, leb-true}
+use Rattle.std.proofs.Common.{◌≡◌, ℕ, zero, suc, ◌+◌, ◌-◌, ◌*◌, ◌/◌, ◌%◌, ◌^◌, ◌<◌, ◌≤◌, Bool, true, false, cond, not, eqb, ltb, ◌↔◌, List, [], ◌∷◌, ◌++◌, reverse, length, get_or, sym, refl, ap, ◌∙◌, ⊎_elim, lt_of_le_of_lt, le_of_lt, mod-lt, mod-eq_of_lt, eq-or-lt_of_le, mul-le-mul_left, mul-lt-mul_of_pos_right, div-add-mod', add-one, arith, lit<, pow_pos, pow-add, shr_lt, ltb-true, lt-ltb, eq-eqb, ne_eqb, eqb-true, le-leb, leb-true}
 use mathlib.Core.Bool.{and-eq-true_iff}
 use mathlib.Core.List.{reverse-cons}
 use native.Mathlib.Nat.{zero-div, div-div-eq-div-mul, mod-add-mod, add-mod-mod, add-mod_right}
@@ -17,7 +17,7 @@ use Rattle.word.specs.Arithmetic.{sum_word, carry_into, carry_word, sum_halves, 
 use Rattle.word.specs.Bitwise.{fax_word, select_word, xor_all}
 use Rattle.word.specs.Hints.{quotient_of, remainder_of, zeros_above}
 use Rattle.word.specs.Assertions.{eq_fails, eq_cond_fails, zero_fails, non_zero_fails, false_fails, true_fails}
-use Rattle.word.proofs.Adder.{by_test, carry_lt}
+use Rattle.word.proofs.Adder.{by_test, carry_step, carry_lt, carry_first}
 
 -- ---- add and subtract
 
@@ -35,6 +35,27 @@ unfolding carry_word
 carry_rule w a b c i l =
     let e = word_bit w i (λ j. carry_into a b c (j + 1)) (λ j. carry_lt a b c (j + 1)) l in
     (λ h. leb-true _ _ (bit_true _ (sym e ∙ h)), λ h. e ∙ ap bit (le-leb _ _ h))
+
+-- the carry below bit i: c below bit 0, and below another the carry bit before it
+abbrev pub carry_below : (w a b c i : ℕ) → ℕ
+carry_below w a b c zero = c
+carry_below w a b c (suc i) = bit_at (carry_word w a b c) i
+
+below_into : (w a b c i : ℕ) → i < w → c < 2 → carry_below w a b c i ≡ carry_into a b c i
+unfolding carry_word
+below_into w a b c zero l h = sym (carry_first a b c h)
+below_into w a b c (suc i) l h =
+    word_bit w i (λ j. carry_into a b c (j + 1)) (λ j. carry_lt a b c (j + 1)) (omega arith) ∙ ap (carry_into a b c) (add-one i)
+
+-- carry bit i is 1 exactly when at least two of the three are: bit i of a, bit i of b and the carry below
+pub two_of_three_rule : (w a b c i : ℕ) → i < w → c < 2 → (bit_at (carry_word w a b c) i ≡ 1) ↔ (2 ≤ bit_at a i + bit_at b i + carry_below w a b c i)
+unfolding carry_word
+two_of_three_rule w a b c i l h =
+    let e = word_bit w i (λ j. carry_into a b c (j + 1)) (λ j. carry_lt a b c (j + 1)) l in
+    let half : bit_at (carry_word w a b c) i ≡ (bit_at a i + bit_at b i + carry_below w a b c i) / 2 =
+    e ∙ ap (carry_into a b c) (add-one i) ∙ carry_step a b c i h ∙ ap (λ (n : ℕ). (bit_at a i + bit_at b i + n) / 2) (sym (below_into w a b c i l h)) in
+    let below : carry_below w a b c i < 2 = omega (arith, below_into w a b c i l h, carry_lt a b c i) in
+    (λ k. omega (arith, half), λ k. omega (arith, half, bit_at_lt a i, bit_at_lt b i, below))
 
 -- borrow bit i is 1 exactly when a mod 2^(i+1) is less than (b mod 2^(i+1)) + c
 pub borrow_rule : (w a b c i : ℕ) → i < w → (bit_at (borrow_word w a b c) i ≡ 1) ↔ (a % 2 ^ (i + 1) < b % 2 ^ (i + 1) + c)
