@@ -75,6 +75,10 @@ column_of s xs k = column s.rows s.width xs (s.first + k)
 pub record Tests (post : ℕ → ℕ → ℕ → Bool → Type 0) (p : ℕ → ℕ → ℕ → Bool) : Type 0 where
   pub value : (x y z : ℕ) (r : Bool) → x < 2 ^ 64 → y < 2 ^ 64 → z < 2 ^ 64 → post x y z r → r ≡ p x y z
 
+-- where a test of two words answers false, p is false of them, whatever the third word is
+pub record Spares (post : ℕ → ℕ → Bool → Type 0) (p : ℕ → ℕ → ℕ → Bool) : Type 0 where
+  pub value : (x y z : ℕ) (r : Bool) → x < 2 ^ 64 → y < 2 ^ 64 → z < 2 ^ 64 → post y z r → r ≡ false → p x y z ≡ false
+
 -- p is true at none of the first n
 abbrev pub Never : (ℕ → Bool) → ℕ → Type 0
 Never p n = (k : ℕ) → k < n → p k ≡ false

@@ -3,7 +3,7 @@
 ghost use Rattle.std.specs.Prelude.{◌≡◌, ℕ, ◌+◌, ◌*◌, ◌<◌, ◌^◌, Bool, length};
 ghost use Rattle.report.specs.Working.{Small};
 ghost use Rattle.rows.specs.Working.{InRow};
-ghost use Rattle.fill.specs.Working.{fails_by, told_by, claim_of, claimed, Reads, column_of, First, Tests, Judged};
+ghost use Rattle.fill.specs.Working.{fails_by, told_by, claim_of, claimed, Reads, column_of, First, Tests, Spares, Judged};
 
 use bytecode::instruction::Instruction;
 use report::noting::Noting;
@@ -71,23 +71,28 @@ pub fn claim_of(i: Instruction) -> Option<Claim>
 }
 
 // The first column of the stripe whose words of the claim's registers fail the test: a labelled loop that is left at the first
-// violation, the form that docs/DECISIONS.md prescribes for the column scan.
-fn scan<F: Fn(u64, u64, u64) -> bool>(
+// violation, the form that docs/DECISIONS.md prescribes for the column scan. Only where the two words may fail is the condition read.
+// A function of its own in the machine code, for each kind: among `run`'s loops the column count would lie on the stack, and be read for each word.
+#[inline(never)]
+fn scan<M: Fn(u64, u64) -> bool, F: Fn(u64, u64, u64) -> bool>(
     values: &[u64],
     s: Stripe,
     claim: Claim,
+    may_fail: M,
     fails: F,
 ) -> Option<usize>
-    requires callable { F.IsAlwaysCallable fails }
+    requires callable { (M.IsAlwaysCallable may_fail) × (F.IsAlwaysCallable fails) }
     requires in_row { (InRow s (length values.now) claim.condition) × (InRow s (length values.now) claim.one) × (InRow s (length values.now) claim.two) }
-    ensures { (p : ℕ → ℕ → ℕ → Bool) → Tests (F.post fails) p → First (λ k. p (column_of s values.now k claim.condition) (column_of s values.now k claim.one) (column_of s values.now k claim.two)) s.count result }
+    ensures { (p : ℕ → ℕ → ℕ → Bool) → Tests (F.post fails) p → Spares (M.post may_fail) p → First (λ k. p (column_of s values.now k claim.condition) (column_of s values.now k claim.one) (column_of s values.now k claim.two)) s.count result }
 {
     let condition = claim.condition as usize * s.width + s.first;
     let one = claim.one as usize * s.width + s.first;
     let two = claim.two as usize * s.width + s.first;
     let mut first = None;
     'columns: for k in 0..s.count {
-        if fails(values[condition + k], values[one + k], values[two + k]) {
+        if may_fail(values[one + k], values[two + k])
+            && fails(values[condition + k], values[one + k], values[two + k])
+        {
             first = Some(k);
             break 'columns;
         }
@@ -95,29 +100,55 @@ fn scan<F: Fn(u64, u64, u64) -> bool>(
     first
 }
 
-// The first column of the stripe where the claim fails: a loop for each kind. AssertEqCond's tests the condition first, which is five
-// instructions a word where it is not set and nine where it is.
+// The first column of the stripe where the claim fails: a loop for each kind. AssertEqCond's tests the words before the condition: where
+// the assertion holds they mostly agree, whatever the condition is, and a branch on it alone would often be guessed wrong.
 fn first_failing(values: &[u64], s: Stripe, claim: Claim) -> Option<usize>
     requires in_row { (InRow s (length values.now) claim.condition) × (InRow s (length values.now) claim.one) × (InRow s (length values.now) claim.two) }
     ensures { First (λ k. fails_by claim.kind (column_of s values.now k claim.condition) (column_of s values.now k claim.one) (column_of s values.now k claim.two)) s.count result }
 {
     match claim.kind {
-        Kind::Eq => scan(values, s, claim, |_, a, b| word::assertions::eq_fails(a, b)),
+        Kind::Eq => scan(
+            values,
+            s,
+            claim,
+            |_, _| true,
+            |_, a, b| word::assertions::eq_fails(a, b),
+        ),
         Kind::EqCond => scan(
             values,
             s,
             claim,
+            |a, b| word::assertions::eq_fails(a, b),
             |c, a, b| word::assertions::eq_cond_fails(c, a, b),
         ),
-        Kind::Zero => scan(values, s, claim, |_, a, _| word::assertions::zero_fails(a)),
+        Kind::Zero => scan(
+            values,
+            s,
+            claim,
+            |_, _| true,
+            |_, a, _| word::assertions::zero_fails(a),
+        ),
         Kind::NonZero => scan(
             values,
             s,
             claim,
+            |_, _| true,
             |_, a, _| word::assertions::non_zero_fails(a),
         ),
-        Kind::False => scan(values, s, claim, |_, a, _| word::assertions::false_fails(a)),
-        Kind::True => scan(values, s, claim, |_, a, _| word::assertions::true_fails(a)),
+        Kind::False => scan(
+            values,
+            s,
+            claim,
+            |_, _| true,
+            |_, a, _| word::assertions::false_fails(a),
+        ),
+        Kind::True => scan(
+            values,
+            s,
+            claim,
+            |_, _| true,
+            |_, a, _| word::assertions::true_fails(a),
+        ),
     }
 }
 

@@ -6,7 +6,7 @@ use Rattle.fill.specs.Working.{column_of}
 use Rattle.fill.specs.declared.assertions.Claim.{Claim}
 use Rattle.fill.proofs.Scans.{at_column}
 use Rattle.fill.proofs.assertions.scan.Goals as goal
-use Rattle.fill.proofs.assertions.scan.Goals.{else-columns-test, then-columns-test+then-fails}
+use Rattle.fill.proofs.assertions.scan.Goals.{else-columns-test, else-may_fail-via-then-may_fail+else-fails, else-may_fail-via-else-may_fail, then-columns-test+then-may_fail+then-fails}
 
 -- what the test said, of the column's words
 tested : (p : ℕ → ℕ → ℕ → Bool) (claim : Claim) (s : Stripe) (xs : List ℕ) (k : ℕ) {n : ℕ} {r : Bool}
@@ -20,19 +20,25 @@ pub columns-preserved : goal.columns-preserved
 columns-preserved g c =
     let a = c.args in (
       c.columns.invariant.0,
-      λ p tests.
-          below_more _ _ (c.columns.invariant.1 p tests)
-          (tested p a.claim a.s a.values.now c.columns.k c.requires.in_row (tests.value _ _ _ _ (search rules) (search rules) (search rules) c.fails.ensures) ∙ c.if-fails.false),
+      λ p tests spares.
+          below_more _ _ (c.columns.invariant.1 p tests spares)
+          (elim c.else-may_fail.branch [
+            | else-may_fail-via-then-may_fail+else-fails w ↦
+                tested p a.claim a.s a.values.now c.columns.k c.requires.in_row (tests.value _ _ _ _ (search rules) (search rules) (search rules) w.fails.ensures) ∙ w.if-fails.false
+            | else-may_fail-via-else-may_fail w ↦
+                tested p a.claim a.s a.values.now c.columns.k c.requires.in_row
+                (sym (spares.value _ _ _ _ (search rules) (search rules) (search rules) c.may_fail.ensures w.if-may_fail.false))
+          ]),
     )
 
 pub returns : goal.returns
-returns g c p tests =
+returns g c p tests spares =
     let a = c.args in
     elim c.columns-test.branch [
-      | else-columns-test w ↦ rw (w.first-is, c.columns.invariant.0) (λ k h. c.columns.invariant.1 p tests k (omega arith))
-      | then-columns-test+then-fails w ↦ rw w.first-is (
+      | else-columns-test w ↦ rw (w.first-is, c.columns.invariant.0) (λ k h. c.columns.invariant.1 p tests spares k (omega arith))
+      | then-columns-test+then-may_fail+then-fails w ↦ rw w.first-is (
         w.columns-test.true,
-        c.columns.invariant.1 p tests,
+        c.columns.invariant.1 p tests spares,
         tested p a.claim a.s a.values.now c.columns.k c.requires.in_row (tests.value _ _ _ _ (search rules) (search rules) (search rules) w.fails.ensures) ∙ w.if-fails.true,
       )
     ]
