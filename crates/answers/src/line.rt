@@ -102,9 +102,12 @@ fn is_digit(byte: u8) -> bool
 pub fn hex(text: &[u8], at: usize, digits: usize) -> u64
     ensures { result ≡ spelled 0 (take digits (drop at text.now)) }
 {
-    text.iter()
-        .skip(at)
-        .take(digits)
+    // A part of the text, and no `skip`: it would go through the bytes before the digits one by one.
+    let from = at.min(text.len());
+    let rest = &text[from..];
+    let count = digits.min(rest.len());
+    rest[..count]
+        .iter()
         .fold(0, |value, byte| (value << 4).wrapping_add(digit(*byte)))
 }
 
