@@ -6,7 +6,6 @@ ghost use Rattle.word.specs.Arithmetic.{sum_word, carry_word, sum_halves, carry_
 use common::halves::{high, join, low};
 
 // a + b + c modulo 2^64, where c is bit 63 of cin.
-#[tactic(auto, using(common::proofs::Digits::top_bit), unfolding(crate::specs::Arithmetic::sum_word))]
 pub fn sum(a: u64, b: u64, cin: u64) -> u64
     ensures { result ≡ sum_word 64 a b (bit_at cin 63) }
 {
@@ -43,7 +42,6 @@ pub fn iadd_carry(a: u64, b: u64) -> u64
 
 // a + b + c modulo 2^32, where c is bit 31 of cin: `sum` at the other width. std has no trait for
 // the sum of both, and one of our own would take more lines than this function.
-#[tactic(auto, using(common::proofs::Digits::top_bit), unfolding(crate::specs::Arithmetic::sum_word))]
 fn half_sum(a: u32, b: u32, cin: u32) -> u32
     ensures { result ≡ sum_word 32 a b (bit_at cin 31) }
 {
