@@ -13,7 +13,7 @@ use answers::{Line, Tally};
 use builder::{BytecodeBuilder, Emitted, Unemitted};
 use bytecode::decoder;
 use call::Call;
-use refusal::{Refusal, RefusedAt};
+use refusal::RefusedAt;
 use std::io;
 
 // How many cases of each kind agree.
@@ -41,9 +41,17 @@ struct Replayed {
     tallies: Tallies,
 }
 
-// The call is refused, and the builder is as it was.
-fn is_refused(answer: Emitted, refusal: Refusal, builder: BytecodeBuilder) -> bool {
-    answer == Err(Unemitted { refusal, builder })
+// The call is refused with document 01's number, and the builder is as it was.
+fn is_refused(answer: Emitted, number: u8, builder: BytecodeBuilder) -> bool {
+    match answer {
+        Ok(_) => false,
+        Err(
+            Unemitted {
+                refusal,
+                builder: after,
+            },
+        ) => u8::from(refusal) == number && after == builder,
+    }
 }
 
 impl Replayed {
@@ -84,7 +92,7 @@ impl Replayed {
         };
         let mine = &mut self.mine[..];
         let answer = call.emit(self.builder, &mut mine[..to - 1]);
-        is_refused(answer, Refusal::NoRoom, self.builder)
+        is_refused(answer, 11, self.builder)
     }
 
     // A call: it is emitted, and what the Rust emitted at the same place is decoded. A second time it has no
@@ -116,7 +124,7 @@ impl Replayed {
             list: &self.list,
         };
         let answer = call.emit_shift(self.builder, &mut self.mine);
-        is_refused(answer, Refusal::BadShift, self.builder)
+        is_refused(answer, 7, self.builder)
     }
 
     fn large_dimension(&mut self) -> bool {
@@ -125,7 +133,7 @@ impl Replayed {
         let answer = self
             .builder
             .emit_hint(&mut self.mine, 3, &dimensions, &none, &none);
-        is_refused(answer, Refusal::BadHint, self.builder)
+        is_refused(answer, 8, self.builder)
     }
 
     fn is_accepted(&self, length: usize, rows: usize) -> bool {
@@ -161,7 +169,10 @@ impl Replayed {
 }
 
 fn no_bytes() -> bool {
-    decoder::decode(&[]) == Err(RefusedAt::from(Refusal::Truncated))
+    match decoder::decode(&[]) {
+        Ok(_) => false,
+        Err(RefusedAt { refusal, offset }) => u8::from(refusal) == 6 && offset == 0,
+    }
 }
 
 fn main(rt: HostRuntime) -> io::Result<()> {
