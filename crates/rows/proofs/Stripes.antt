@@ -194,41 +194,45 @@ where? first count c = go (dec_lt c first) (dec_lt c (first + count))
 
 -- ---- `Across` says what `on_stripe` says
 
-module _ (F : Col → Col) (s : Stripe) (xs : List ℕ) (size : length xs ≡ s.rows * s.width) where
+-- of any four numbers, whether or not the columns that they name lie within the width
+module _ (F : Col → Col) (rows width first count : ℕ) (xs : List ℕ) (size : length xs ≡ rows * width) where
   abbrev word_of : ℕ → ℕ
   word_of k =
-      cond (in_stripe s.first s.count (k % s.width)) (F (column s.rows s.width xs (k % s.width)) (k / s.width)) (get_or xs k 0)
+      cond (in_stripe first count (k % width)) (F (column rows width xs (k % width)) (k / width)) (get_or xs k 0)
 
-  pub across_is : {ys : List ℕ} → Across F s xs ys → ys ≡ on_stripe F s.rows s.width s.first s.count xs
+  pub across_any : {ys : List ℕ} → length ys ≡ length xs
+      → ((k : ℕ) → k < count → column rows width ys (first + k) ≡ F (column rows width xs (first + k)))
+      → ((c : ℕ) → c < width → (c < first) ⊎ (first + count ≤ c) → column rows width ys c ≡ column rows width xs c)
+      → ys ≡ on_stripe F rows width first count xs
   unfolding on_stripe
-  across_is {ys} a =
-      ext_get_or 0 ys (tabulate (length xs) word_of) (a.size ∙ sym (length-tabulate (length xs) word_of)) λ k h.
-      at k (subst (λ n. k < n) a.size h) (where? s.first s.count (k % s.width)) ∙ sym (get_d_tabulate (length xs) word_of k (subst (λ n. k < n) a.size h))
+  across_any {ys} same inside outside =
+      ext_get_or 0 ys (tabulate (length xs) word_of) (same ∙ sym (length-tabulate (length xs) word_of)) λ k h.
+      at k (subst (λ n. k < n) same h) (where? first count (k % width)) ∙ sym (get_d_tabulate (length xs) word_of k (subst (λ n. k < n) same h))
     where
-      width : ℕ
-      width = s.width
-
-      small : (k : ℕ) → k < length xs → k % s.width < s.width
-      small k h = mod-lt k (pos s.width (subst (λ n. k < n) size h))
+      small : (k : ℕ) → k < length xs → k % width < width
+      small k h = mod-lt k (pos width (subst (λ n. k < n) size h))
         where
-          pos : (w : ℕ) → k < s.rows * w → 0 < w
-          pos zero h = absurd (not-suc-le-zero (subst (λ n. k < n) (mul-zero s.rows) h))
+          pos : (w : ℕ) → k < rows * w → 0 < w
+          pos zero h = absurd (not-suc-le-zero (subst (λ n. k < n) (mul-zero rows) h))
           pos (suc w) h = omega arith
 
-      row : (k : ℕ) → k < length xs → k / s.width < s.rows
-      row k h = go (dec_lt (k / s.width) s.rows)
+      row : (k : ℕ) → k < length xs → k / width < rows
+      row k h = go (dec_lt (k / width) rows)
         where
-          go : Dec (k / s.width < s.rows) → k / s.width < s.rows
+          go : Dec (k / width < rows) → k / width < rows
           go (yes l) = l
           go (no n) =
-              let more : s.rows ≤ k / s.width = omega arith in
-              absurd (omega (arith, mul-le-mul_right s.width more, div-add-mod' k s.width))
+              let more : rows ≤ k / width = omega arith in
+              absurd (omega (arith, mul-le-mul_right width more, div-add-mod' k width))
 
-      split : (zs : List ℕ) (k : ℕ) → k < length xs → get_or zs k 0 ≡ column s.rows s.width zs (k % s.width) (k / s.width)
-      split zs k h = ap (λ n. get_or zs n 0) (sym (div-add-mod' k s.width)) ∙ sym (column_at_lem s.width zs (k % s.width) (row k h))
+      split : (zs : List ℕ) (k : ℕ) → k < length xs → get_or zs k 0 ≡ column rows width zs (k % width) (k / width)
+      split zs k h = ap (λ n. get_or zs n 0) (sym (div-add-mod' k width)) ∙ sym (column_at_lem width zs (k % width) (row k h))
 
       at : (k : ℕ) → k < length xs
-          → (k % s.width < s.first) ⊎ (((j : ℕ) × (j < s.count) × (k % s.width ≡ s.first + j)) ⊎ (s.first + s.count ≤ k % s.width)) → get_or ys k 0 ≡ word_of k
-      at k h (inl b) = rw (below_stripe s.first s.count (k % s.width) b) (split ys k h ∙ ap (λ f. f (k / s.width)) (a.outside (k % s.width) (small k h) (inl b)) ∙ sym (split xs k h))
-      at k h (inr (inr b)) = rw (above_stripe s.first s.count (k % s.width) b) (split ys k h ∙ ap (λ f. f (k / s.width)) (a.outside (k % s.width) (small k h) (inr b)) ∙ sym (split xs k h))
-      at k h (inr (inl (j, l, p))) = split ys k h ∙ (rw (p, in_stripe_lem s.first s.count j l) (ap (λ f. f (k / s.width)) (a.inside j l)))
+          → (k % width < first) ⊎ (((j : ℕ) × (j < count) × (k % width ≡ first + j)) ⊎ (first + count ≤ k % width)) → get_or ys k 0 ≡ word_of k
+      at k h (inl b) = rw (below_stripe first count (k % width) b) (split ys k h ∙ ap (λ f. f (k / width)) (outside (k % width) (small k h) (inl b)) ∙ sym (split xs k h))
+      at k h (inr (inr b)) = rw (above_stripe first count (k % width) b) (split ys k h ∙ ap (λ f. f (k / width)) (outside (k % width) (small k h) (inr b)) ∙ sym (split xs k h))
+      at k h (inr (inl (j, l, p))) = split ys k h ∙ (rw (p, in_stripe_lem first count j l) (ap (λ f. f (k / width)) (inside j l)))
+
+pub across_is : (F : Col → Col) (s : Stripe) (xs : List ℕ) → length xs ≡ s.rows * s.width → {ys : List ℕ} → Across F s xs ys → ys ≡ on_stripe F s.rows s.width s.first s.count xs
+across_is F s xs size a = across_any F s.rows s.width s.first s.count xs size a.size a.inside a.outside

@@ -1,10 +1,11 @@
 -- From what the parts leave to what `pool` promises. Assumes nothing.
 use mathlib.Core.Path.{◌≡◌, sym, ap, ◌∙◌}
-use mathlib.Core.Bool.{true}
+use mathlib.Core.Bool.{true, false}
 use mathlib.Core.List.{List}
 use Prim.Native.Nat.{ℕ}
 use lib.ListN.{length}
-use Rattle.std.specs.Prelude.{Ok}
+use Rattle.std.specs.Prelude.{Ok, Err}
+use Rattle.refusal.specs.declared.Refusal.TheVariants.{BadGates}
 use Rattle.scratch.specs.declared.Policy.{Policy}
 use Rattle.scratch.specs.declared.Policy.TheVariants.{PerWire, Pooled}
 use Rattle.scratch.specs.declared.judge.GateList.{GateList}
@@ -14,6 +15,11 @@ use Rattle.scratch.specs.Accept.{accepted}
 use Rattle.scratch.specs.Answer.{told, answer_of, slots_after, slots_of, length_of}
 use Rattle.scratch.specs.Working.{gates_in, wires_in}
 use Rattle.scratch.proofs.Cut.{good, gates_length}
+
+-- a list that is not accepted
+pub refused_answer : (wires : ℕ) (ends mentions marks slots : List ℕ) (policy : Policy) → accepted wires ends mentions marks slots ≡ false
+    → (told (Err BadGates) ≡ answer_of wires ends mentions marks slots policy) × (slots ≡ slots_after wires ends mentions marks slots policy)
+refused_answer wires ends mentions marks slots policy e = (rw e, rw e)
 
 module _ (wires : ℕ) (ends mentions marks slots : List ℕ) (policy : Policy) (list : GateList)
     (e : (accepted wires ends mentions marks slots ≡ true) × (list.ends.now ≡ ends) × (list.mentions.now ≡ mentions) × (list.marks.now ≡ marks)) where
