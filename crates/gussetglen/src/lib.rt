@@ -82,7 +82,7 @@ pub extern "C" fn gussetglen_check(code: &[u8], rows: usize) -> u64
 {
     match accept::check(code, rows) {
         Ok(()) => 0,
-        Err(refused) => pack_refusal(refused),
+        Err(refused) => pack_refusal(refused), // counted from the program's first byte
     }
 }
 

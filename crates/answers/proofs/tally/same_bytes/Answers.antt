@@ -1,24 +1,19 @@
--- `answers::tally::same_bytes` meets its contract: the slices of the range are compared, where both have it. Assumes nothing.
-use Rattle.std.proofs.Common.{◌-◌, ◌∙◌, ◌≡◌, sym, drop, take, rules, arith}
-use Rattle.std.proofs.lemmas.List.{length-drop}
-use mathlib.Core.Logic.{inl, inr, ⊎_elim}
-use Rattle.answers.proofs.Same.{same_slices, same_out_of_range}
+-- `answers::tally::same_bytes` meets its contract: what is left of both decides. Assumes nothing.
+use Rattle.std.proofs.Common.{arith, eq-eqb, ne_eqb}
+use Rattle.answers.proofs.Same.{done, short-one, short_other, differ, agree}
 use Rattle.answers.proofs.tally.same_bytes.Goals as goal
-use Rattle.answers.proofs.tally.same_bytes.Goals.{in_default-via-in-Some+in_default, in_default-via-in_default}
 
-pub returns-in-Some-Some : goal.returns-in-Some-Some
-returns-in-Some-Some c =
-    let n = c.args.to - c.args.from in
-    let one = c.in-Some-Some.ensures.lookup.0 in
-    let other = c.in-Some-Some.ensures'.lookup.0 in
-    let long = length-drop c.args.from c.args.one.now in
-    let wide = length-drop c.args.from c.args.other.now in
-    (rw (one.2, other.2) at c.eq.ensures)
-    ∙ sym (same_slices n (drop c.args.from c.args.one.now) (drop c.args.from c.args.other.now) (omega (arith, long, one.1)) (omega (arith, wide, other.1)))
+pub returns-then-one-at : goal.returns-then-one-at
+returns-then-one-at c = short-one c.loop-at.invariant (omega arith) c.if-one-at.true
 
-pub returns-in_default : goal.returns-in_default
-returns-in_default c =
-    elim c.in_default.branch [
-      | in_default-via-in-Some+in_default w ↦ same_out_of_range c.args.one.now c.args.other.now c.args.from c.args.to (⊎_elim (λ a. inl a) (λ b. inr (inr b)) w.in_default.ensures'.lookup.0)
-      | in_default-via-in_default w ↦ same_out_of_range c.args.one.now c.args.other.now c.args.from c.args.to (⊎_elim (λ a. inl a) (λ b. inr (inl b)) w.in_default.ensures.lookup.0)
-    ]
+pub returns-then-other-at : goal.returns-then-other-at
+returns-then-other-at c = short_other c.loop-at.invariant (omega arith) (omega arith) c.if-other-at.true
+
+pub returns-then-one-at-2 : goal.returns-then-one-at-2
+returns-then-one-at-2 c = differ c.loop-at.invariant (omega arith) (omega arith) (omega arith) (ne_eqb _ _ c.if-one-at-2.true)
+
+pub loop-at-preserved : goal.loop-at-preserved
+loop-at-preserved c = agree c.loop-at.invariant (omega arith) (omega arith) (omega arith) (eq-eqb _ _ c.if-one-at-2.false)
+
+pub returns : goal.returns
+returns c = done c.loop-at.invariant c.loop-at-test.false

@@ -2,6 +2,7 @@
 use Rattle.std.proofs.Common.{ℕ, ◌≡◌, ◌<◌, ◌*◌, List, length, get_or, map, sym, ap, ◌∙◌, arith}
 use Rattle.std.proofs.lemmas.List.{get_or-map, length-map}
 use Rattle.common.proofs.Below.{below_at}
+use Rattle.std.specs.Int.{to_le_bytes, w32}
 use Rattle.builder.proofs.Stores.{put_more, put_done}
 use Rattle.builder.proofs.store.put_words.Goals as goal
 
@@ -25,7 +26,7 @@ loop-i-preserved g c =
     let i = c.loop-i.i in
     put_more (c.requires.room ∙ ap (λ (n : ℕ). 4 * n) (sym (length-map v number))) c.loop-i.invariant _ (number c.index-values-i.result)
     (omega (arith, length-map v number)) (numbered number v i _ c.loop-i-test.true c.index-values-i.is)
-    (rw c.field-number.ensures at (c.copy_from_slice.ensures.after ∙ c.to_le_bytes.ensures)) (omega arith)
+    (c.copy_from_slice.ensures.after ∙ c.to_le_bytes.ensures ∙ ap (to_le_bytes w32) (omega (arith, c.field-number.ensures))) (omega arith)
 
 pub returns : goal.returns
 returns g c =
